@@ -1,0 +1,11 @@
+pub mod Table
+pub mod Numbers
+pub mod Bits
+pub mod Hands
+pub mod Seen
+pub mod Deal
+pub mod Refusals
+pub mod Faults
+pub mod Reading
+pub mod Told
+pub mod Parts
