@@ -6,7 +6,7 @@ ghost use Rattle.std.specs.Options.{Cases as BySome};
 ghost use Rattle.cards.specs.Table.{deck, suit as suit-of, rank as rank-of};
 ghost use Rattle.cards.specs.Numbers.{suit-number, trump-number};
 
-#[derive(Clone, Copy, PartialEq, Eq, Debug)]
+#[derive(Clone, Copy)]
 pub enum Suit {
     Clubs,
     Diamonds,
@@ -15,21 +15,21 @@ pub enum Suit {
 }
 
 // 0 for the two, 12 for the ace.
-#[derive(Clone, Copy, PartialEq, Eq, Debug)]
+#[derive(Clone, Copy)]
 pub struct Rank {
     pub number: u8,
     ghost low: { number < 13 },
 }
 
 // 13 times its suit, and its rank.
-#[derive(Clone, Copy, PartialEq, Eq, Debug)]
+#[derive(Clone, Copy)]
 pub struct Card {
     pub number: u8,
     ghost low: { number < deck },
 }
 
 // The suit that is trump, if one is.
-#[derive(Clone, Copy, PartialEq, Eq, Debug)]
+#[derive(Clone, Copy)]
 pub enum Trump {
     Of(Suit),
     NoTrump,
@@ -43,7 +43,7 @@ pub fn card_number(suit: u8, rank: u8) -> u16
 }
 
 impl Suit {
-    pub fn number(self) -> u8
+    fn number(self) -> u8
         ensures { λ r. ⌜ r ≡ suit-number self ⌝ }
     {
         match self {

@@ -10,7 +10,7 @@ use crate::card::Card;
 use crate::card::Suit;
 
 // Card c is there if bit c is.
-#[derive(Clone, Copy, PartialEq, Eq, Debug)]
+#[derive(Clone, Copy)]
 pub struct Hand {
     pub bits: u64,
     ghost low: { bits < 2 ^ deck },
@@ -45,7 +45,7 @@ impl Hand {
         }
     }
 
-    pub fn union(self, other: Hand) -> Hand
+    pub(crate) fn union(self, other: Hand) -> Hand
         ensures { λ r. ⌜ ((x : ℕ) → bit (r .bits) x ≡ (bit (self .bits) x || bit (other .bits) x)) ⌝ }
     {
         Hand {

@@ -5,14 +5,14 @@ ghost use Rattle.std.specs.Options.{Cases as BySome};
 ghost use Rattle.cards.specs.Numbers.{side-number};
 
 // They sit round, from 0 to 3.
-#[derive(Clone, Copy, PartialEq, Eq, Debug)]
+#[derive(Clone, Copy)]
 pub struct Player {
     pub seat: u8,
     ghost low: { seat < 4 },
 }
 
 // Ours is players 0 and 2, the others are 1 and 3.
-#[derive(Clone, Copy, PartialEq, Eq, Debug)]
+#[derive(Clone, Copy)]
 pub enum Side {
     Ours,
     Others,

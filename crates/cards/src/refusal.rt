@@ -3,14 +3,14 @@ ghost use mathlib.Core.Path.{_≡_};
 ghost use Rattle.cards.specs.Refusals.{lent-place, number-of, place-of};
 
 // Lent memory that is too short.
-#[derive(Clone, Copy, PartialEq, Eq, Debug)]
+#[derive(Clone, Copy)]
 pub enum Lent {
     Hands,
     Plays,
     Positions,
 }
 
-#[derive(Clone, Copy, PartialEq, Eq, Debug)]
+#[derive(Clone, Copy)]
 pub enum Refusal {
     // the byte for trump is above 4
     Trump,
@@ -39,7 +39,7 @@ pub enum Refusal {
 
 impl Lent {
     // The place by which it is told.
-    pub fn place(self) -> usize
+    fn place(self) -> usize
         ensures { λ r. ⌜ r ≡ lent-place self ⌝ }
     {
         match self {

@@ -1,0 +1,62 @@
+// Judges a claim: reads a deal, a row of cards and a claim from standard input, and prints what it says of them.
+use cards::reader::read_deal;
+use cards::room::Room;
+use std::env;
+use std::error::AnyError;
+use std::io::Read;
+use text::BoardDisplay;
+use text::RefusalDisplay;
+use text::Shown;
+
+// What stands before the claim, the last two bytes.
+fn before_claim(input: &[u8]) -> &[u8] {
+    if input.len() < 2 {
+        return &input[0..0];
+    }
+    &input[0..input.len() - 2]
+}
+
+// The most cards in a hand that are served: the argument, 1 to 8, or 5 without one.
+fn most_cards(rt: &LibcRuntime) -> Result<u8, AnyError> {
+    let mut args = env::args(rt)?;
+    let _program = args.next();
+    let Some(first) = args.next() else {
+        return Ok(5);
+    };
+    if args.next().is_some() {
+        return Err("more than one argument".into());
+    }
+    match first.as_str().parse::<u8>() {
+        Ok(most) if most >= 1 && most <= 8 => Ok(most),
+        _ => Err("no number of cards".into()),
+    }
+}
+
+fn judge(rt: &LibcRuntime, most: u8) -> Result<(), AnyError> {
+    let mut input = Vec::new(rt.alloc());
+    rt.stdin().read_to_end(&mut input)?;
+    let room = Room {
+        cards: most,
+        plays: 32,
+        positions: 1,
+        worths: 1,
+    };
+    match read_deal(before_claim(&input), room) {
+        Ok(deal) => println!(rt, "{}", Shown(deal.board))?,
+        Err(refusal) => println!(rt, "{}", Shown(refusal))?,
+    }
+    Ok(())
+}
+
+fn main(rt: LibcRuntime) -> Result<(), AnyError> {
+    match most_cards(&rt) {
+        Ok(most) => judge(&rt, most),
+        Err(error) => {
+            eprintln!(
+                rt,
+                "usage: judge [CARDS]   (the most cards in a hand that it serves, 1 to 8; 5 without it)"
+            )?;
+            Err(error)
+        }
+    }
+}
