@@ -118,7 +118,7 @@ module _ (bs : List ℕ) (cards : card-fault bs ≡ None) where
             once-only (3 + i) (3 + j) (inl (trick-place i (omega arith))) (inl (trick-place j k)) (omega arith) (trick-at i (omega arith) ∙ e ∙ sym (trick-at j k));
         suited = λ i l ne.
             let k : i < byte bs 2 = omega (arith, trick-long) in
-            let f = no-fault _ (3 + i) (first-clean (λ j. fault (revokes bs j) (3 + j)) (byte bs 2) i suits k) in
+            let f : revokes bs i ≡ false = no-fault _ (3 + i) (first-clean (λ j. fault (revokes bs j) (3 + j)) (byte bs 2) i suits k) in
             let other : not (eqb (suit (byte bs (3 + i))) (suit (byte bs 3))) ≡ true =
             not-from-false _ (ne-eqb _ _ (λ e. ne (ap suit (sym (trick-at i k)) ∙ e ∙ ap suit (trick-at 0 (omega arith))))) in
             let p : ℕ = (byte bs 1 + i) % 4 in

@@ -1,5 +1,7 @@
 // The running table. Its invariant says that it is in order, so no literal and no write can make one that is not.
+ghost use mathlib.Core.Path.{_≡_};
 ghost use Prim.Native.Nat.{_<_};
+ghost use lib.ListN.{length};
 ghost use Rattle.cards.specs.Hands.{Kept};
 use crate::card::Card;
 use crate::card::Trump;
@@ -15,6 +17,7 @@ pub struct Board {
     // the first `played` of these lie on the table, from the leader on
     pub trick: [Card; 3],
     pub played: u8,
+    ghost places: { length trick ≡ 3 },
     ghost short: { played < 4 },
     ghost order: { Kept trump hands leader trick played },
 }

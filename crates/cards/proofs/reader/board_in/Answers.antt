@@ -70,7 +70,7 @@ returns-in-rest-followed c room =
 pub ghost-result : need.ghost-result
 ghost-result c =
     let read = read-so-far (at·ghost-result c .After-trick-in-trick) (cards-clean (at·ghost-result c .In-Good-dealt)) in
-    (omega arith, (kept _ _ _ _ _ _ read (c .in-Good-even .ensures tt .0) (suits-same _ _ _ _ _ _ read ∙ c .in-Good-followed .ensures tt .0), tt))
+    (omega arith, (omega arith, (kept _ _ _ _ _ _ read (c .in-Good-even .ensures tt .0) (suits-same _ _ _ _ _ _ read ∙ c .in-Good-followed .ensures tt .0), tt)))
 
 pub returns : need.returns
 returns c room =
