@@ -7,7 +7,7 @@ use native.Mathlib.Omega.{arith}
 use native.Mathlib.Nat.{add-mul, div-eq-of-lt, div-self}
 use lib.Dec.{eqb, ltb}
 use lib.Bits.{bitAnd, bitOr, and-shr, and-mod, or-shr, or-mod}
-use Rattle.std.proofs.shelf.Bits.{mod-below, pow-add, pow-pos, pow-below, shl-shr, shr-high, shr-split, div-below, one-shl, or-lt, and-le-l}
+use Rattle.std.proofs.shelf.Bits.{mod-below, pow-add, pow-pos, pow-below, shl-shr, shr-high, shr-split, div-below, one-shl, and-le-l}
 use Rattle.std.proofs.shelf.Tests.{eq-eqb, ne-eqb, cases-lt, cases-order}
 use Rattle.cards.specs.Table.{deck}
 use Rattle.cards.specs.Bits.{bit}
@@ -103,30 +103,22 @@ bit-not x d w p q =
     flip (suc (suc y)) l = absurd (omega arith)
 
 -- 1 << c at 64 bits is the set of card c alone
-abbrev mask : ℕ → ℕ
-mask c = (1 * 2 ^ c) % 18446744073709551616
+pub bit-single : (c d : ℕ) → c < deck → bit ((1 * 2 ^ c) % 18446744073709551616) d ≡ eqb d c
+bit-single c d l = ap (λ (m : ℕ). bit m d) (one-shl c 64 (omega arith)) ∙ bit-pow c d
 
-mask-is : (c : ℕ) → c < deck → mask c ≡ 2 ^ c
-mask-is c l = one-shl c 64 (omega arith)
+pub single-low : (c : ℕ) → c < deck → (1 * 2 ^ c) % 18446744073709551616 < 2 ^ deck
+single-low c l = subst (λ (m : ℕ). m < 2 ^ deck) (sym (one-shl c 64 (omega arith))) (pow-below c deck l)
 
--- a card put into a set, h | (1 << c)
-pub bit-with : (h c d : ℕ) → c < deck → bit (bitOr h (mask c)) d ≡ (bit h d || eqb d c)
-bit-with h c d l = bit-or h (mask c) d ∙ ap (λ (b : Bool). bit h d || b) (ap (λ (m : ℕ). bit m d) (mask-is c l) ∙ bit-pow c d)
-
-pub with-low : (h c : ℕ) → h < 2 ^ deck → c < deck → bitOr h (mask c) < 2 ^ deck
-with-low h c p l = or-lt deck h (mask c) p (subst (λ (m : ℕ). m < 2 ^ deck) (sym (mask-is c l)) (pow-below c deck l))
-
--- a card taken out of a set, h & !(1 << c)
-pub bit-without : (h c d : ℕ) → h < 2 ^ deck → c < deck → bit (bitAnd h (18446744073709551615 - mask c)) d ≡ (bit h d && not (eqb d c))
-bit-without h c d p l =
-    ap (λ (m : ℕ). bit (bitAnd h (18446744073709551615 - m)) d) (mask-is c l)
-    ∙ bit-and h (18446744073709551615 - 2 ^ c) d
+-- the cards of one set that are not in another, h & !k at 64 bits
+pub bit-minus : (h k d : ℕ) → h < 2 ^ deck → k < 2 ^ deck → bit (bitAnd h (18446744073709551615 - k)) d ≡ (bit h d && not (bit k d))
+bit-minus h k d p q =
+    bit-and h (18446744073709551615 - k) d
     ∙ elim (cases-lt d 64) [
-      | inl k ↦ ap (λ (b : Bool). bit h d && b) (bit-not (2 ^ c) d 64 (pow-below c 64 (omega arith)) k ∙ ap not (bit-pow c d))
-      | inr k ↦
+      | inl l ↦ ap (λ (b : Bool). bit h d && b) (bit-not k d 64 (omega arith) l)
+      | inr l ↦
           let z : bit h d ≡ false = bit-past h d deck p (omega arith) in
-          ap (λ (b : Bool). b && bit (18446744073709551615 - 2 ^ c) d) z ∙ sym (ap (λ (b : Bool). b && not (eqb d c)) z)
+          ap (λ (b : Bool). b && bit (18446744073709551615 - k) d) z ∙ sym (ap (λ (b : Bool). b && not (bit k d)) z)
     ]
 
-pub without-low : (h c : ℕ) → h < 2 ^ deck → bitAnd h (18446744073709551615 - mask c) < 2 ^ deck
-without-low h c p = omega (arith, and-le-l h (18446744073709551615 - mask c))
+pub minus-low : (h k : ℕ) → h < 2 ^ deck → bitAnd h k < 2 ^ deck
+minus-low h k p = omega (arith, and-le-l h k)

@@ -29,19 +29,12 @@ impl Hand {
         (self.bits >> card.number) % 2 == 1
     }
 
-    pub fn with(self, card: Card) -> Hand
-        ensures { λ r. ⌜ ((x : ℕ) → bit (r .bits) x ≡ (bit (self .bits) x || eqb x (card .number))) ⌝ }
+    // The set of one card.
+    fn single(card: Card) -> Hand
+        ensures { λ r. ⌜ ((x : ℕ) → bit (r .bits) x ≡ eqb x (card .number)) ⌝ }
     {
         Hand {
-            bits: self.bits | 1 << card.number,
-        }
-    }
-
-    pub fn without(self, card: Card) -> Hand
-        ensures { λ r. ⌜ ((x : ℕ) → bit (r .bits) x ≡ (bit (self .bits) x && not (eqb x (card .number)))) ⌝ }
-    {
-        Hand {
-            bits: self.bits & !(1 << card.number),
+            bits: 1 << card.number,
         }
     }
 
@@ -51,6 +44,26 @@ impl Hand {
         Hand {
             bits: self.bits | other.bits,
         }
+    }
+
+    fn minus(self, other: Hand) -> Hand
+        ensures { λ r. ⌜ ((x : ℕ) → bit (r .bits) x ≡ (bit (self .bits) x && not (bit (other .bits) x))) ⌝ }
+    {
+        Hand {
+            bits: self.bits & !other.bits,
+        }
+    }
+
+    pub fn with(self, card: Card) -> Hand
+        ensures { λ r. ⌜ ((x : ℕ) → bit (r .bits) x ≡ (bit (self .bits) x || eqb x (card .number))) ⌝ }
+    {
+        self.union(Hand::single(card))
+    }
+
+    pub fn without(self, card: Card) -> Hand
+        ensures { λ r. ⌜ ((x : ℕ) → bit (r .bits) x ≡ (bit (self .bits) x && not (eqb x (card .number)))) ⌝ }
+    {
+        self.minus(Hand::single(card))
     }
 
     // Whether it has a card, and that of a suit.
