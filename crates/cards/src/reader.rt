@@ -8,6 +8,7 @@ ghost use Prim.Native.Nat.{ℕ, _+_, _-_, _*_, _%_, max, _<_, _≤_};
 ghost use lib.Dec.{ltb, eqb};
 ghost use lib.ListN.{length, getD, take, drop};
 ghost use Rattle.std.specs.Options.{Cases as BySome};
+ghost use Rattle.std.specs.Vec.{made};
 ghost use Rattle.cards.specs.Table.{pick, deck, suit, has-suit};
 ghost use Rattle.cards.specs.Bits.{bit};
 ghost use Rattle.cards.specs.Hands.{bits-of, held, numbers};
@@ -305,7 +306,8 @@ fn board_in(
 
 // The checks in their order.
 fn checked_deal(bytes: &[u8], room: Room) -> Result<Deal, Refusal>
-    ensures { λ r. ⌜ told r ≡ reading (now (bytes .entry)) room ⌝ }
+    ensures value { λ r. ⌜ told r ≡ reading (now (bytes .entry)) room ⌝ }
+    ensures within { λ r. ⌜ made r (λ d. d .size ≤ length (now (bytes .entry))) ⌝ }
 {
     let Some(trump) = Trump::from_number(byte_at(bytes, 0)) else {
         return Err(Refusal::Trump);
@@ -338,6 +340,7 @@ fn checked_deal(bytes: &[u8], room: Room) -> Result<Deal, Refusal>
 pub fn read_deal(bytes: &[u8], room: Room) -> Result<Deal, Refusal>
     ensures value { λ r. ⌜ told r ≡ reading (now (bytes .entry)) room ⌝ }
     ensures first { λ r. ⌜ Right (now (bytes .entry)) room (told r) ⌝ }
+    ensures within { λ r. ⌜ made r (λ d. d .size ≤ length (now (bytes .entry))) ⌝ }
 {
     checked_deal(bytes, room)
 }

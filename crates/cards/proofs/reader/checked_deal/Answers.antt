@@ -1,7 +1,7 @@
 use mathlib.Core.Path.{_≡_, sym, ap, _∙_}
 use mathlib.Core.List.{[], _∷_}
 use native.Mathlib.Omega.{arith}
-use Rattle.std.proofs.shelf.Results.{err-from-errBy}
+use Rattle.std.proofs.shelf.Results.{err-from-errBy, made-from-err}
 use Rattle.cards.specs.Seen.{seen}
 use Rattle.cards.specs.Faults.{bad-card, bad-share, bad-suit}
 use Rattle.cards.specs.Reading.{accepts, refuses, run, reading}
@@ -25,7 +25,13 @@ passed c =
 pub returns-in-Break-board : need.returns-in-Break-board
 returns-in-Break-board c =
     let e = err-from-errBy (c .from-residual .result) (c .from-residual .ensures .1) in
-    ap told (e .1) ∙ ap (λ (x : Refusal). refuses (number-of x) (place-of x)) (e .2) ∙ c .in-Break-board .ensures tt (c .args .room) ∙ sym (passed (at·returns-in-Break-board c .In-Some-whole))
+    record {
+      value = ap told (e .1) ∙ ap (λ (x : Refusal). refuses (number-of x) (place-of x)) (e .2) ∙ c .in-Break-board .ensures tt (c .args .room) ∙ sym (passed (at·returns-in-Break-board c .In-Some-whole));
+      within = made-from-err (c .from-residual .result) _ (c .from-residual .ensures .0);
+    }
 
 pub returns : need.returns
-returns c = ap (accepts (seen (c .in-Continue-board .board))) (c .in-Some-whole .ensures tt .0 ∙ c .starts-in-starts .ensures .at 4 (omega arith)) ∙ c .in-Continue-board .ensures tt (c .args .room) ∙ sym (passed (at·returns c .In-Some-whole))
+returns c = record {
+  value = ap (accepts (seen (c .in-Continue-board .board))) (c .in-Some-whole .ensures tt .0 ∙ c .starts-in-starts .ensures .at 4 (omega arith)) ∙ c .in-Continue-board .ensures tt (c .args .room) ∙ sym (passed (at·returns c .In-Some-whole));
+  within = omega (arith, c .in-Some-whole .ensures tt);
+}

@@ -5,6 +5,7 @@ use Rattle.cards.proofs.reader.read_deal.Needs as need
 
 pub returns : need.returns
 returns c = record {
-  value = c .checked-deal .ensures;
-  first = subst (λ (o : Outcome). Right (c .args .bytes .now) (c .args .room) o) (sym (c .checked-deal .ensures)) (reading-right (c .args .bytes .now) (c .args .room));
+  value = c .checked-deal .ensures .value;
+  first = subst (λ (o : Outcome). Right (c .args .bytes .now) (c .args .room) o) (sym (c .checked-deal .ensures .value)) (reading-right (c .args .bytes .now) (c .args .room));
+  within = c .checked-deal .ensures .within;
 }
