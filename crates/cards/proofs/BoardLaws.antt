@@ -63,6 +63,9 @@ module _ (bs : List ℕ) (trump : Trump) (hands : List Hand) (leader : Player) (
       let m : i < byte bs 2 = omega (arith, read .many) in
       getD-take played (numbers trick) i 0 (omega arith) ∙ lies i m ∙ trick-at bs (read .cards) three-at-most (read .whole) i m)
 
+  pub hands-four : length hands ≡ 4
+  hands-four = sym (length-map hands (λ h. h .bits)) ∙ read .dealt .1 .four
+
   hand-is : (p x : ℕ) → held hands p x ≡ (ltb p 4 && has (cards-of bs p) x)
   hand-is p x = elim (cases-lt p 4) [
     | inl l ↦ read .dealt .1 .each p l x ∙ sym (ap (λ (b : Bool). b && has (cards-of bs p) x) (lt-ltb p 4 l))

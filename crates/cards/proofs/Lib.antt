@@ -1,10 +1,11 @@
 pub mod BitLaws
 pub mod SuitLaws
 pub mod CountLaws
+mod CountBits
 pub mod Order
-mod DealLaws
-mod GatherLaws
-mod Finds
+pub mod DealLaws
+pub mod GatherLaws
+pub mod Finds
 mod Standing
 mod CardFaults
 mod CheckFaults

@@ -17,6 +17,7 @@ pub struct Board {
     // the first `played` of these lie on the table, from the leader on
     pub trick: [Card; 3],
     pub played: u8,
+    ghost seats: { length hands ≡ 4 },
     ghost places: { length trick ≡ 3 },
     ghost short: { played < 4 },
     ghost order: { Kept trump hands leader trick played },

@@ -1,9 +1,9 @@
 // A hand: a set of cards, as the bits of a number.
 ghost use mathlib.Core.Path.{_≡_};
 ghost use mathlib.Core.Bool.{false, not, _&&_, _||_};
-ghost use Prim.Native.Nat.{ℕ, _<_, _^_};
+ghost use Prim.Native.Nat.{ℕ, _≤_, _<_, _^_};
 ghost use lib.Dec.{eqb};
-ghost use Rattle.cards.specs.Table.{deck, suit as suit-of, has-suit};
+ghost use Rattle.cards.specs.Table.{deck, suit as suit-of, count, has-suit};
 ghost use Rattle.cards.specs.Bits.{bit};
 ghost use Rattle.cards.specs.Numbers.{suit-number};
 use crate::card::Card;
@@ -23,6 +23,14 @@ impl Hand {
         Hand { bits: 0 }
     }
 
+    // How many cards it has.
+    pub fn len(self) -> u8
+        ensures cards { λ r. ⌜ r ≡ count (bit (self .bits)) deck ⌝ }
+        ensures few { λ r. ⌜ r ≤ deck ⌝ }
+    {
+        self.bits.count_ones() as u8
+    }
+
     pub fn holds(self, card: Card) -> bool
         ensures { λ r. ⌜ r ≡ bit (self .bits) (card .number) ⌝ }
     {
@@ -38,7 +46,8 @@ impl Hand {
         }
     }
 
-    pub(crate) fn union(self, other: Hand) -> Hand
+    // The cards of both.
+    pub fn union(self, other: Hand) -> Hand
         ensures { λ r. ⌜ ((x : ℕ) → bit (r .bits) x ≡ (bit (self .bits) x || bit (other .bits) x)) ⌝ }
     {
         Hand {

@@ -11,7 +11,7 @@ use Rattle.cards.specs.Faults.{bad-share, bad-suit}
 use Rattle.cards.specs.Parts.{place-in}
 use Rattle.cards.specs.Reading.{accepts, refuses, refuse-at}
 use Rattle.cards.proofs.DealLaws.{start-mono}
-use Rattle.cards.proofs.BoardLaws.{trick-check, Read, table-is, suits-same, kept}
+use Rattle.cards.proofs.BoardLaws.{trick-check, Read, hands-four, table-is, suits-same, kept}
 use Rattle.cards.proofs.ReadLaws.{passes, stops, or-else-first, or-else-second}
 use Rattle.cards.proofs.reader.board_in.Needs as need
 use Rattle.cards.proofs.reader.board_in.Needs.{In-Good-dealt, After-trick-in-trick, at·returns-in-rest-even, at·returns-in-rest-followed, at·ghost-result, at·returns}
@@ -70,7 +70,7 @@ returns-in-rest-followed c room =
 pub ghost-result : need.ghost-result
 ghost-result c =
     let read = read-so-far (at·ghost-result c .After-trick-in-trick) (cards-clean (at·ghost-result c .In-Good-dealt)) in
-    (omega arith, (omega arith, (kept _ _ _ _ _ _ read (c .in-Good-even .ensures tt .0) (suits-same _ _ _ _ _ _ read ∙ c .in-Good-followed .ensures tt .0), tt)))
+    (omega (arith, hands-four _ _ _ _ _ _ read), (omega arith, (omega arith, (kept _ _ _ _ _ _ read (c .in-Good-even .ensures tt .0) (suits-same _ _ _ _ _ _ read ∙ c .in-Good-followed .ensures tt .0), tt))))
 
 pub returns : need.returns
 returns c room =
