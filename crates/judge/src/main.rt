@@ -1,12 +1,21 @@
 // Judges a claim: reads a deal, a row of cards and a claim from standard input, and prints what it says of them.
+use cards::board::Board;
+use cards::card::Card;
+use cards::player::Player;
 use cards::reader::read_deal;
+use cards::refusal::Refusal;
 use cards::room::Room;
+use referee::row::Play;
+use referee::row::play_row;
 use std::env;
 use std::error::AnyError;
 use std::io::Read;
 use text::BoardDisplay;
+use text::HandDisplay;
 use text::RefusalDisplay;
 use text::Shown;
+use tricks::legal::playable;
+use tricks::turn::turn;
 
 // What stands before the claim, the last two bytes.
 fn before_claim(input: &[u8]) -> &[u8] {
@@ -14,6 +23,23 @@ fn before_claim(input: &[u8]) -> &[u8] {
         return &input[0..0];
     }
     &input[0..input.len() - 2]
+}
+
+// The table after the row that follows the deal.
+fn table_after(input: &[u8], most: u8) -> Result<Board, Refusal> {
+    let room = Room {
+        cards: most,
+        plays: 32,
+        positions: 1,
+        worths: 1,
+    };
+    let deal = read_deal(input, room)?;
+    let unplayed = Play {
+        player: Player { seat: 0 },
+        card: Card { number: 0 },
+        taker: None,
+    };
+    play_row(&deal.board, &input[deal.size..], &mut [unplayed; 32])
 }
 
 // The most cards in a hand that are served: the argument, 1 to 8, or 5 without one.
@@ -32,20 +58,23 @@ fn most_cards(rt: &LibcRuntime) -> Result<u8, AnyError> {
     }
 }
 
+fn show_table(rt: &LibcRuntime, board: Board) -> Result<(), AnyError> {
+    println!(rt, "{}", Shown(board))?;
+    let player = turn(&board).seat;
+    println!(rt, "player {player} may play {}", Shown(playable(&board)))?;
+    Ok(())
+}
+
 fn judge(rt: &LibcRuntime, most: u8) -> Result<(), AnyError> {
     let mut input = Vec::new(rt.alloc());
     rt.stdin().read_to_end(&mut input)?;
-    let room = Room {
-        cards: most,
-        plays: 32,
-        positions: 1,
-        worths: 1,
-    };
-    match read_deal(before_claim(&input), room) {
-        Ok(deal) => println!(rt, "{}", Shown(deal.board))?,
-        Err(refusal) => println!(rt, "{}", Shown(refusal))?,
+    match table_after(before_claim(&input), most) {
+        Ok(board) => show_table(rt, board),
+        Err(refusal) => {
+            println!(rt, "{}", Shown(refusal))?;
+            Ok(())
+        }
     }
-    Ok(())
 }
 
 fn main(rt: LibcRuntime) -> Result<(), AnyError> {

@@ -59,9 +59,12 @@ pub impl fmt::Display for Shown<Trump> as TrumpDisplay {
     }
 }
 
-// From the ace of spades down to the two of clubs.
+// From the ace of spades down to the two of clubs; a hand without cards is a dash.
 pub impl fmt::Display for Shown<Hand> as HandDisplay {
     fn fmt<W: fmt::Write>(&self, f: &mut fmt::Formatter<W>) -> fmt::Result {
+        if self.0.bits == 0 {
+            return write!(f, "-");
+        }
         let mut first = true;
         for below in 0..52u8 {
             let card = Card { number: 51 - below };

@@ -1,0 +1,4 @@
+mod CardsLaws
+mod LogLaws
+mod WhyLaws
+mod RowRight

@@ -1,0 +1,5 @@
+pub mod Plays
+pub mod Row
+pub mod Parts
+pub mod Refereed
+pub mod Right

@@ -1,0 +1,2 @@
+// A row of cards, played on a table.
+pub mod row;
