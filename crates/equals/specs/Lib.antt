@@ -1,0 +1,4 @@
+pub mod Equals
+pub mod Lowest
+pub mod Covered
+pub mod Serves
