@@ -10,12 +10,10 @@ use referee::row::play_row;
 use std::env;
 use std::error::AnyError;
 use std::io::Read;
-use text::BoardDisplay;
-use text::HandDisplay;
 use text::RefusalDisplay;
 use text::Shown;
-use tricks::legal::playable;
-use tricks::turn::turn;
+use worth::call::worth;
+use worth::positions::slots;
 
 // What stands before the claim, the last two bytes.
 fn before_claim(input: &[u8]) -> &[u8] {
@@ -26,13 +24,7 @@ fn before_claim(input: &[u8]) -> &[u8] {
 }
 
 // The table after the row that follows the deal.
-fn table_after(input: &[u8], most: u8) -> Result<Board, Refusal> {
-    let room = Room {
-        cards: most,
-        plays: 32,
-        positions: 1,
-        worths: 1,
-    };
+fn table_after(input: &[u8], room: Room) -> Result<Board, Refusal> {
     let deal = read_deal(input, room)?;
     let unplayed = Play {
         player: Player { seat: 0 },
@@ -58,23 +50,30 @@ fn most_cards(rt: &LibcRuntime) -> Result<u8, AnyError> {
     }
 }
 
-fn show_table(rt: &LibcRuntime, board: Board) -> Result<(), AnyError> {
-    println!(rt, "{}", Shown(board))?;
-    let player = turn(&board).seat;
-    println!(rt, "player {player} may play {}", Shown(playable(&board)))?;
-    Ok(())
+// The worth of the table after the row, with memory for positions.
+fn judged(input: &[u8], most: u8, positions: &mut [u64], worths: &mut [u8]) -> Result<u8, Refusal> {
+    let room = Room {
+        cards: most,
+        plays: 32,
+        positions: positions.len(),
+        worths: worths.len(),
+    };
+    let board = table_after(input, room)?;
+    worth(&board, positions, worths)
 }
 
 fn judge(rt: &LibcRuntime, most: u8) -> Result<(), AnyError> {
-    let mut input = Vec::new(rt.alloc());
+    let heap = rt.alloc();
+    let mut input = Vec::new(heap);
     rt.stdin().read_to_end(&mut input)?;
-    match table_after(before_claim(&input), most) {
-        Ok(board) => show_table(rt, board),
-        Err(refusal) => {
-            println!(rt, "{}", Shown(refusal))?;
-            Ok(())
-        }
+    // without memory there is no slot, and the refusal says so
+    let mut positions = vec![in heap; 0u64; slots(most)].unwrap_or(Vec::new(heap));
+    let mut worths = vec![in heap; 0u8; slots(most)].unwrap_or(Vec::new(heap));
+    match judged(before_claim(&input), most, &mut positions, &mut worths) {
+        Ok(worth) => println!(rt, "worth {worth}")?,
+        Err(refusal) => println!(rt, "{}", Shown(refusal))?,
     }
+    Ok(())
 }
 
 fn main(rt: LibcRuntime) -> Result<(), AnyError> {

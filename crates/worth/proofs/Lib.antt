@@ -1,0 +1,8 @@
+pub mod CardsLeft
+pub mod PlayLaws
+pub mod BestLaws
+pub mod ValueLaws
+pub mod OtherSide
+mod EqualLaws
+pub mod PositionLaws
+mod SearchLaws
