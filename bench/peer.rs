@@ -24,8 +24,13 @@ fn playable(board: &Board) -> u64 {
     if board.played == 0 {
         return hand;
     }
-    let same = hand & suit_mask(board.trick[0] / 13);
-    if same == 0 { hand } else { same }
+    let suit = board.trick[0] / 13;
+    if has_suit(hand, suit) { hand & suit_mask(suit) } else { hand }
+}
+
+// Looked up card by card, as there.
+fn has_suit(hand: u64, suit: u8) -> bool {
+    (0..52u8).any(|card| hand >> card & 1 == 1 && card / 13 == suit)
 }
 
 // The cards that may be played, of equal ones the lowest.
@@ -84,38 +89,45 @@ fn slot(key: u64, places: usize) -> usize {
     (key.wrapping_mul(0x9e37_79b9_7f4a_7c15) >> 32) as usize % places
 }
 
-fn search(board: Board, left: u8, positions: &mut [u64], worths: &mut [u8]) -> u8 {
-    let cards = lowest_equals(&board);
-    if cards == 0 {
-        return 0;
+// The worth, or the nearest to it within low and high.
+fn search(board: Board, left: u8, low: u8, high: u8, positions: &mut [u64], worths: &mut [u8]) -> u8 {
+    if low == high {
+        return low;
     }
     let place = slot(key(&board), positions.len());
     if board.played == 0 && positions[place] == key(&board) {
-        return worths[place];
+        return worths[place].min(high).max(low);
     }
     let ours = (board.leader + board.played) % 2 == 0;
-    let goal = if ours { left } else { 0 };
-    let mut best = left - goal;
-    'suits: for suit in 0..4u8 {
-        for rank in 0..13u8 {
+    let cards = lowest_equals(&board);
+    let (mut floor, mut ceiling) = (low, high);
+    'suits: for suit in (0..4u8).rev() {
+        for rank in (0..13u8).rev() {
             let card = 13 * suit + rank;
             if cards >> card & 1 == 0 {
                 continue;
             }
             let (next, gain) = play(&board, card);
-            let left = if board.played == 3 { left - 1 } else { left };
-            let worth = gain + search(next, left, positions, worths);
-            best = if ours { best.max(worth) } else { best.min(worth) };
-            if best == goal {
+            let rest = if board.played == 3 { left - 1 } else { left };
+            let (low, high) = (floor.saturating_sub(gain), ceiling.saturating_sub(gain).min(rest));
+            let worth = gain + search(next, rest, low, high, positions, worths);
+            if ours {
+                floor = floor.max(worth);
+            } else {
+                ceiling = ceiling.min(worth);
+            }
+            if floor == ceiling {
                 break 'suits;
             }
         }
     }
-    if board.played == 0 {
+    let worth = if ours { floor } else { ceiling };
+    let exact = (low < worth || low == 0) && (worth < high || high == left);
+    if exact && board.played == 0 {
         positions[place] = key(&board);
-        worths[place] = best;
+        worths[place] = worth;
     }
-    best
+    worth
 }
 
 fn slots(cards: u8) -> usize {
@@ -140,7 +152,7 @@ fn solve() {
         let start = Instant::now();
         positions.fill(0);
         worths.fill(0);
-        let worth = search(board, cards, &mut positions, &mut worths);
+        let worth = search(board, cards, 0, cards, &mut positions, &mut worths);
         println!("{cards} {worth} {}", start.elapsed().as_nanos());
         rest = more;
     }

@@ -8,7 +8,7 @@ use native.Mathlib.Numerals.{add-one}
 use Rattle.std.proofs.shelf.Tests.{cases-bool, cases-lt}
 use Rattle.cards.specs.Table.{Table}
 use Rattle.tricks.specs.Rules.{our-turn, after, gains}
-use Rattle.worth.specs.Value.{better, worst, top, best-below}
+use Rattle.worth.specs.Value.{better, worst, best-below}
 
 -- what our side has by card c, where v is the value of what comes after
 abbrev pub by-card : (Table → ℕ) → Table → ℕ → ℕ
@@ -39,19 +39,6 @@ better-left false a b c h = omega arith
 better-right : (ours : Bool) (a b : ℕ) → No-worse ours (better ours a b) b
 better-right true a b = omega arith
 better-right false a b = omega arith
-
--- of numbers that are at most m, the worst and the better of two are so, and nothing betters the top
-worst-low : (ours : Bool) (m : ℕ) → worst ours m ≤ m
-worst-low true m = omega arith
-worst-low false m = omega arith
-
-better-low : (ours : Bool) (a b m : ℕ) → a ≤ m → b ≤ m → better ours a b ≤ m
-better-low true a b m h k = omega arith
-better-low false a b m h k = omega arith
-
-better-top : (ours : Bool) (a b m : ℕ) → b ≤ m → a ≡ top ours m → better ours a b ≡ top ours m
-better-top true a b m h e = omega arith
-better-top false a b m h e = omega arith
 
 module _ (set : ℕ → Bool) (v : Table → ℕ) (m : ℕ) (t : Table) where
   -- the best over the members below i
@@ -108,13 +95,6 @@ module _ (set : ℕ → Bool) (v : Table → ℕ) (m : ℕ) (t : Table) where
     | inl e ↦ subst (Given i) (sym e) h
     | inr e ↦ inr (c, l, y, e)
   ])
-
-  -- where every member gives at most m, so does the best, and once it is the top it stays so
-  pub best-low : (i : ℕ) → ((c : ℕ) → set c ≡ true → by-card v t c ≤ m) → best i ≤ m
-  best-low i f = best-has (λ b. b ≤ m) i (worst-low (our-turn t) m) (λ b c _ y h. better-low (our-turn t) b (by-card v t c) m h (f c y))
-
-  pub best-top : (i j : ℕ) → ((c : ℕ) → set c ≡ true → by-card v t c ≤ m) → i ≤ j → best i ≡ top (our-turn t) m → best j ≡ top (our-turn t) m
-  best-top i j f l e = best-keeps (λ b. b ≡ top (our-turn t) m) i j l e (λ b c _ y. better-top (our-turn t) b (by-card v t c) m (f c y))
 
 -- each member of a set below i gives what some member of another gives
 abbrev pub Matched : (ℕ → Bool) → (Table → ℕ) → (ℕ → Bool) → (Table → ℕ) → Table → ℕ → Type 0

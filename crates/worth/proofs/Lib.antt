@@ -5,4 +5,5 @@ pub mod ValueLaws
 pub mod OtherSide
 mod EqualLaws
 pub mod PositionLaws
+mod WindowLaws
 mod SearchLaws

@@ -1,33 +1,48 @@
--- The best of the cards so far, as the search goes through them, and the tables that it goes on to. Assumes nothing.
+-- The window so far, as the search goes through the cards, and the tables that it goes on to. Assumes nothing.
 use mathlib.Core.Path.{_≡_, refl, sym, ap, ap₂, subst, _∙_}
 use mathlib.Core.Bool.{Bool, true, false}
 use mathlib.Core.List.{List, [], _∷_, _++_}
-use Prim.Native.Nat.{ℕ, zero, suc, _+_, _-_, _≤_, _<_}
+use Prim.Native.Nat.{ℕ, _+_, _-_, _%_, _≤_, _<_, min}
 use native.Mathlib.Omega.{arith}
-use native.Mathlib.Numerals.{add-one}
 use lib.Dec.{eqb}
 use lib.ListN.{length}
 use Rattle.std.specs.declared.option.Option.{Option}
 use Rattle.std.specs.declared.option.Option.the-variants.{Some, None}
-use Rattle.cards.specs.Table.{Table, pick, deck, Sound}
+use Rattle.cards.specs.Table.{Table, pick, one, deck, Sound}
 use Rattle.cards.specs.Seen.{seen, tricks-left}
 use Rattle.cards.specs.declared.board.Board.{Board}
 use Rattle.cards.proofs.Order.{in-order}
-use Rattle.tricks.specs.Rules.{our-turn, may, winner, after, gains}
+use Rattle.tricks.specs.Rules.{our-turn, may, winner, after}
 use Rattle.tricks.specs.Taken.{taker-of, gain-of}
 use Rattle.tricks.specs.Moves.{After}
 use Rattle.tricks.specs.declared.play.Played.{Played}
-use Rattle.worth.specs.Value.{better, worst, top, cards-left, best-below, worth-of}
+use Rattle.worth.specs.Value.{worst, cards-left, best-below, worth-of}
 use Rattle.worth.specs.Positions.{Under, True}
-use Rattle.worth.specs.Search.{Enough, left-with}
+use Rattle.worth.specs.Search.{Enough, left-with, clamp, exact}
 use Rattle.worth.proofs.CardsLeft.{cards-are, cards-after}
-use Rattle.worth.proofs.BestLaws.{best-none, best-takes, best-skips}
-use Rattle.worth.proofs.ValueLaws.{worth-none, worth-step, card-within, top-stays}
+use Rattle.worth.proofs.BestLaws.{by-card, best-none, best-takes, best-skips}
+use Rattle.worth.proofs.ValueLaws.{worth-low, worth-step}
 use Rattle.worth.proofs.PositionLaws.{under-after}
+use Rattle.worth.proofs.WindowLaws.{raised, lowered, lowered-least, clamp-one, clamp-all, clamp-exact, clamp-worst, after-order, narrows, narrows-order, found-is}
 
--- with no trick left the worth is none
-pub none-left : (b : Board) (left : ℕ) → left ≡ tricks-left b → left ≡ 0 → 0 ≡ worth-of (seen b)
-none-left b left e z = sym (worth-none (seen b) (omega (arith, cards-are (seen b) (tricks-left b) (in-order b .sound))))
+-- a card takes at most one trick off those left, and brings at most one
+next-left : (taker : Option ℕ) (n : ℕ) → n ≤ left-with taker n + 1
+next-left None n = omega arith
+next-left (Some p) n = omega arith
+
+gain-small : (taker : Option ℕ) → gain-of taker ≤ 1
+gain-small None = omega arith
+gain-small (Some p) = elim (eqb (p % 2) 0) as (λ x. one x ≤ 1) [ true ↦ omega arith | false ↦ omega arith ]
+
+-- a worth that was found within all of the tricks left, or that is exact, is the worth
+worth-within : (b : Board) (left : ℕ) → left ≡ tricks-left b → worth-of (seen b) ≤ left
+worth-within b left e = omega (arith, worth-low (seen b) (tricks-left b) (in-order b .sound))
+
+pub whole-worth : (b : Board) (left : ℕ) → left ≡ tricks-left b → clamp 0 left (worth-of (seen b)) ≡ worth-of (seen b)
+whole-worth b left e = clamp-all left (worth-of (seen b)) (worth-within b left e)
+
+pub exact-worth : (b : Board) (low high left v : ℕ) → left ≡ tricks-left b → v ≡ clamp low high (worth-of (seen b)) → exact low high left v ≡ true → v ≡ worth-of (seen b)
+exact-worth b low high left v e = clamp-exact low high left v (worth-of (seen b)) (worth-within b left e)
 
 -- ---- what comes of a card
 module _ (b : Board) (c : ℕ) (p : Played) (played : After b c p) where
@@ -47,56 +62,92 @@ module _ (b : Board) (c : ℕ) (p : Played) (played : After b c p) where
   pub after-under : (root : Table) → Under root (seen b) → Under root (seen (p .board))
   after-under root u = under-after root (seen b) (seen (p .board)) c u (played .table)
 
-  pub after-worth : (gain rest : ℕ) → gain ≡ gain-of (taker-of (p .taker)) → rest ≡ worth-of (seen (p .board)) → gain + rest ≡ gains (seen b) c + worth-of (after (seen b) c)
-  after-worth gain rest e f = ap₂ (λ (x y : ℕ). x + y) (e ∙ played .gain) (f ∙ ap worth-of (played .table))
+  -- the window for what follows it, and that what is found of a card is the nearest to what it brings
+  module _ (left rest gain floor ceiling low high : ℕ) (e : rest ≡ left-with (taker-of (p .taker)) left) (g : gain ≡ gain-of (taker-of (p .taker)))
+      (some : floor < ceiling) (most : ceiling ≤ left) (l : low ≡ floor - gain) (h : high ≡ min (ceiling - gain) rest) where
+    near : left ≤ rest + 1
+    near = omega (arith, next-left (taker-of (p .taker)) left)
 
-  pub after-within : (left gain rest : ℕ) → left ≡ tricks-left b → gain ≡ gain-of (taker-of (p .taker)) → rest ≡ worth-of (seen (p .board)) → gain + rest ≤ left
-  after-within left gain rest l e f = omega (arith, after-worth gain rest e f, card-within (seen b) (tricks-left b) c (in-order b .sound) (played .legal))
+    small : gain ≤ 1
+    small = omega (arith, gain-small (taker-of (p .taker)))
 
--- ---- the best so far
--- of the cards of a set below i, best is the best for table t with n tricks left, and what the slots keep is true
-pub record So-far (root t : Table) (n : ℕ) (set : ℕ → Bool) (i best : ℕ) (keys worths : List ℕ) : Type 0 where
-  pub best-is : best ≡ best-below set worth-of n t i
+    pub after-window : low ≤ high
+    after-window = omega (arith, after-order floor ceiling gain left rest some most near small)
+
+    pub after-found : (r : ℕ) → left ≡ tricks-left b → r ≡ clamp low high (worth-of (seen (p .board))) → gain + r ≡ clamp floor ceiling (by-card worth-of (seen b) c)
+    after-found r f is =
+        ap (λ (x : ℕ). gain + x) (is ∙ ap₂ (λ (x y : ℕ). clamp x y (worth-of (seen (p .board)))) l h)
+        ∙ found-is floor ceiling gain left rest some most near small (worth-of (seen (p .board))) (worth-within (p .board) rest (after-left left rest f e))
+        ∙ ap (clamp floor ceiling) (ap₂ (λ (x y : ℕ). x + y) (g ∙ played .gain) (ap worth-of (played .table)))
+
+-- ---- the window so far
+-- of the cards of a set those from i on were looked at, of table t with n tricks left:
+-- its worth within low and high is the best of the cards below i within floor and ceiling, and what the slots keep is true
+pub record So-far (root t : Table) (n low high : ℕ) (set : ℕ → Bool) (i floor ceiling : ℕ) (keys worths : List ℕ) : Type 0 where
+  pub order : floor ≤ ceiling
+  pub most : ceiling ≤ n
+  pub worth : clamp low high (worth-of t) ≡ clamp floor ceiling (best-below set worth-of n t i)
   pub kept : True root keys worths
 
-module _ (root t : Table) (n : ℕ) (set : ℕ → Bool) where
-  pub so-far-none : (ours : Bool) (best : ℕ) (keys worths : List ℕ) → ours ≡ our-turn t → best ≡ worst ours n → True root keys worths → So-far root t n set 0 best keys worths
-  so-far-none ours best keys worths o e k = record { best-is = e ∙ ap (λ (x : Bool). worst x n) o ∙ sym (best-none set worth-of n t); kept = k }
-
+module _ (root t : Table) (n low high : ℕ) (set : ℕ → Bool) where
   -- a card that is not looked at
-  pub so-far-skips : (i j best : ℕ) (keys worths : List ℕ) → i + 1 ≡ j → set i ≡ false → So-far root t n set i best keys worths → So-far root t n set j best keys worths
-  so-far-skips i j best keys worths next e s = record {
-    best-is = s .best-is ∙ sym (best-skips set worth-of n t i e) ∙ ap (best-below set worth-of n t) next;
+  pub so-far-skips : (i j floor ceiling : ℕ) (keys worths : List ℕ) → i + 1 ≡ j → set i ≡ false → So-far root t n low high set j floor ceiling keys worths →
+      So-far root t n low high set i floor ceiling keys worths
+  so-far-skips i j floor ceiling keys worths next e s = record {
+    order = s .order;
+    most = s .most;
+    worth = s .worth ∙ ap (λ (k : ℕ). clamp floor ceiling (best-below set worth-of n t k)) (sym next) ∙ ap (clamp floor ceiling) (best-skips set worth-of n t i e);
     kept = s .kept;
   }
 
-  -- a card that brings w
-  pub so-far-takes : (i j best w r : ℕ) (ours : Bool) (keys worths keys′ worths′ : List ℕ) → i + 1 ≡ j → set i ≡ true → ours ≡ our-turn t → w ≡ gains t i + worth-of (after t i) →
-      r ≡ better ours best w → True root keys′ worths′ → So-far root t n set i best keys worths → So-far root t n set j r keys′ worths′
-  so-far-takes i j best w r ours keys worths keys′ worths′ next e o f g k s = record {
-    best-is =
-        g ∙ ap (λ (x : Bool). better x best w) o ∙ ap₂ (λ (x y : ℕ). better (our-turn t) x y) (s .best-is) f
-        ∙ sym (best-takes set worth-of n t i e)
-        ∙ ap (best-below set worth-of n t) next;
-    kept = k;
-  }
+  -- a card of which the nearest to what it brings was found
+  pub so-far-takes : (i j floor ceiling worth floor′ ceiling′ : ℕ) (ours : Bool) (keys worths keys′ worths′ : List ℕ) → i + 1 ≡ j → set i ≡ true → ours ≡ our-turn t →
+      worth ≡ clamp floor ceiling (by-card worth-of t i) → floor′ ≡ raised ours floor worth → ceiling′ ≡ lowered ours ceiling worth → True root keys′ worths′ →
+      So-far root t n low high set j floor ceiling keys worths → So-far root t n low high set i floor′ ceiling′ keys′ worths′
+  so-far-takes i j floor ceiling worth floor′ ceiling′ ours keys worths keys′ worths′ next e o w f c k s =
+      let f′ : floor′ ≡ raised (our-turn t) floor (clamp floor ceiling (by-card worth-of t i)) = f ∙ ap₂ (λ (x : Bool) (y : ℕ). raised x floor y) o w in
+      let c′ : ceiling′ ≡ lowered (our-turn t) ceiling (clamp floor ceiling (by-card worth-of t i)) = c ∙ ap₂ (λ (x : Bool) (y : ℕ). lowered x ceiling y) o w in
+      record {
+        order = rw (f′, c′) (narrows-order (our-turn t) floor ceiling (by-card worth-of t i) (s .order));
+        most = omega (arith, c, lowered-least ours ceiling worth, s .most);
+        worth =
+            s .worth ∙ ap (λ (k : ℕ). clamp floor ceiling (best-below set worth-of n t k)) (sym next) ∙ ap (clamp floor ceiling) (best-takes set worth-of n t i e)
+            ∙ narrows (our-turn t) floor ceiling (best-below set worth-of n t i) (by-card worth-of t i) (s .order)
+            ∙ sym (ap₂ (λ (x y : ℕ). clamp x y (best-below set worth-of n t i)) f′ c′);
+        kept = k;
+      }
 
-module _ (root : Table) (b : Board) (n : ℕ) (set : ℕ → Bool) (left : n ≡ tricks-left b) (some : 0 < n) (enough : Enough (seen b) (tricks-left b) set) where
-  sound : Sound (seen b) n
-  sound = subst (λ (m : ℕ). Sound (seen b) m) (sym left) (in-order b .sound)
+  -- once floor and ceiling meet, what is left of the cards does not matter
+  pub so-far-closed : (i floor ceiling : ℕ) (ours : Bool) (keys worths : List ℕ) → floor ≡ ceiling → So-far root t n low high set i floor ceiling keys worths →
+      pick ours floor ceiling ≡ clamp low high (worth-of t)
+  so-far-closed i floor ceiling ours keys worths e s = either ours ∙ clamp-one floor ceiling (best-below set worth-of n t i) e ∙ sym (s .worth)
+    where
+      either : (x : Bool) → pick x floor ceiling ≡ floor
+      either true = refl
+      either false = sym e
 
-  -- the best of all cards is the worth
-  best-all : best-below set worth-of n (seen b) deck ≡ worth-of (seen b)
-  best-all =
-      ap (λ (m : ℕ). best-below set worth-of m (seen b) deck) left ∙ enough .best
-      ∙ ap (λ (m : ℕ). best-below (may (seen b)) worth-of m (seen b) deck) (sym left) ∙ sym (worth-step (seen b) n sound (omega (arith, cards-are (seen b) n sound, sound .short)))
+  -- nor is anything left of them at the end
+  pub so-far-all : (i floor ceiling : ℕ) (ours : Bool) (keys worths : List ℕ) → i ≡ 0 → ours ≡ our-turn t → So-far root t n low high set i floor ceiling keys worths →
+      pick ours floor ceiling ≡ clamp low high (worth-of t)
+  so-far-all i floor ceiling ours keys worths e o s =
+      clamp-worst ours floor ceiling n (s .order) (s .most)
+      ∙ ap (λ (x : Bool). clamp floor ceiling (worst x n)) o
+      ∙ sym (ap (clamp floor ceiling) (best-none set worth-of n t))
+      ∙ ap (λ (k : ℕ). clamp floor ceiling (best-below set worth-of n t k)) (sym e)
+      ∙ sym (s .worth)
 
-  pub so-far-all : (i best : ℕ) (keys worths : List ℕ) → i ≡ deck → So-far root (seen b) n set i best keys worths → best ≡ worth-of (seen b)
-  so-far-all i best keys worths e f = f .best-is ∙ ap (best-below set worth-of n (seen b)) e ∙ best-all
+-- with no card looked at
+pub so-far-none : (root : Table) (b : Board) (n low high : ℕ) (set : ℕ → Bool) (i : ℕ) (keys worths : List ℕ) → n ≡ tricks-left b → Enough (seen b) (tricks-left b) set → i ≡ deck →
+    low < high → high ≤ n → True root keys worths → So-far root (seen b) n low high set i low high keys worths
+so-far-none root b n low high set i keys worths left enough e some most k = record {
+  order = omega arith;
+  most = most;
+  worth = ap (clamp low high) (worth-step (seen b) n sound (omega (arith, cards-are (seen b) n sound, sound .short)) ∙ all ∙ ap (best-below set worth-of n (seen b)) (sym e));
+  kept = k;
+}
+  where
+    sound : Sound (seen b) n
+    sound = subst (λ (m : ℕ). Sound (seen b) m) (sym left) (in-order b .sound)
 
-  -- once nothing can be better, what is left of the cards does not matter
-  pub so-far-settled : (i best : ℕ) (ours : Bool) (keys worths : List ℕ) → i ≤ deck → ours ≡ our-turn (seen b) → best ≡ top ours n →
-      So-far root (seen b) n set i best keys worths → best ≡ worth-of (seen b)
-  so-far-settled i best ours keys worths l o e f =
-      let reached : best ≡ top (our-turn (seen b)) n = e ∙ ap (λ (x : Bool). top x n) o in
-      reached ∙ sym (top-stays set (seen b) n i deck sound (enough .legal) l (sym (f .best-is) ∙ reached)) ∙ best-all
+    all : best-below (may (seen b)) worth-of n (seen b) deck ≡ best-below set worth-of n (seen b) deck
+    all = ap (λ (m : ℕ). best-below (may (seen b)) worth-of m (seen b) deck) left ∙ sym (enough .best) ∙ ap (λ (m : ℕ). best-below set worth-of m (seen b) deck) (sym left)

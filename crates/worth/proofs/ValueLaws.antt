@@ -11,11 +11,11 @@ use Rattle.tricks.specs.Plays.{Takes, none, we-play, they-play, Held, out-of-ca
 use Rattle.tricks.specs.Statements.{left-after}
 use Rattle.tricks.proofs.MayLaws.{may-parts}
 use Rattle.tricks.proofs.Stays.{keeps-sound}
-use Rattle.worth.specs.Value.{worst, top, cards-left, tricks, best-below, value, worth-of}
+use Rattle.worth.specs.Value.{worst, cards-left, tricks, best-below, value, worth-of}
 use Rattle.worth.specs.Statements.{One-worth, Value-is-worth}
 use Rattle.worth.proofs.CardsLeft.{cards-are, tricks-left, some-trick, some-card, cards-after, gains-fit}
 use Rattle.worth.proofs.PlayLaws.{takes-fewer, held-more, worth-once, at-most}
-use Rattle.worth.proofs.BestLaws.{by-card, No-worse, none-better, best-given, best-low, best-top, best-same}
+use Rattle.worth.proofs.BestLaws.{by-card, No-worse, none-better, best-given, best-same}
 
 -- where v is the worth after each card, the best over all cards is the worth before
 module _ (t : Table) (n : ℕ) (s : Sound t n) (v : Table → ℕ) (is : (c : ℕ) → may t c ≡ true → Worth (after t c) (v (after t c))) where
@@ -120,15 +120,3 @@ skipping set t n legal stands-in =
     best-same set worth-of (may t) worth-of n t deck
     (λ c l y. (c, l, legal c y, refl))
     (λ c l m. let (d, y, g, r) = stands-in c m in (d, may-parts t d (legal d y) .card, y, omega arith))
-
--- no card gives more than the tricks left
-pub card-within : (t : Table) (n c : ℕ) → Sound t n → may t c ≡ true → gains t c + worth-of (after t c) ≤ n
-card-within t n c s m = by-low t n s worth-of (λ d k. value-is-worth (after t d) (left-after t n) (keeps-sound t n d s k)) c m
-
--- nor does the best over some, and once it is the top it stays so
-pub best-within : (set : ℕ → Bool) (t : Table) (n i : ℕ) → Sound t n → Playable-set t set → best-below set worth-of n t i ≤ n
-best-within set t n i s legal = best-low set worth-of n t i (λ c y. card-within t n c s (legal c y))
-
-pub top-stays : (set : ℕ → Bool) (t : Table) (n i j : ℕ) → Sound t n → Playable-set t set → i ≤ j →
-    best-below set worth-of n t i ≡ top (our-turn t) n → best-below set worth-of n t j ≡ top (our-turn t) n
-top-stays set t n i j s legal = best-top set worth-of n t i j (λ c y. card-within t n c s (legal c y))

@@ -1,7 +1,8 @@
 -- What the parts of the search hand on. Assumes nothing: these are definitions.
 use mathlib.Core.Path.{_≡_}
-use mathlib.Core.Bool.{Bool, true}
-use Prim.Native.Nat.{ℕ, _-_}
+use mathlib.Core.Bool.{Bool, true, _&&_, _||_}
+use Prim.Native.Nat.{ℕ, _-_, min, max}
+use lib.Dec.{ltb, eqb}
 use Rattle.std.specs.declared.option.Option.{Option}
 use Rattle.std.specs.declared.option.Option.the-variants.{Some, None}
 use Rattle.cards.specs.Table.{Table, deck}
@@ -17,3 +18,11 @@ pub record Enough (t : Table) (n : ℕ) (set : ℕ → Bool) : Type 0 where
 abbrev pub left-with : Option ℕ → ℕ → ℕ
 left-with None n = n
 left-with (Some p) n = n - 1
+
+-- the number within low and high that is nearest to v
+abbrev pub clamp : ℕ → ℕ → ℕ → ℕ
+clamp low high v = max low (min high v)
+
+-- is v, found within low and high, for sure the worth, of n tricks: at an end only where no worth is past it
+abbrev pub exact : ℕ → ℕ → ℕ → ℕ → Bool
+exact low high n v = (ltb low v || eqb low 0) && (ltb v high || eqb high n)

@@ -9,12 +9,9 @@ use Rattle.tricks.specs.Rules.{our-turn, may, after, gains}
 abbrev pub better : Bool → ℕ → ℕ → ℕ
 better ours a b = pick ours (max a b) (min a b)
 
--- the worst that who is to play can have, of m tricks, and the best
+-- the worst that who is to play can have, of m tricks
 abbrev pub worst : Bool → ℕ → ℕ
 worst ours m = pick ours 0 m
-
-abbrev pub top : Bool → ℕ → ℕ
-top ours m = pick ours m 0
 
 -- the cards in the four hands
 abbrev pub cards-left : Table → ℕ

@@ -1,9 +1,9 @@
-// What who is to play makes of the cards: our side the largest number of tricks for us, the others the smallest.
+// What who is to play makes of the cards: our side raises what it has for sure, the others lower what it can have.
 ghost use mathlib.Core.Path.{_≡_};
-ghost use lib.Dec.{eqb};
+ghost use Prim.Native.Nat.{min, max};
+ghost use Rattle.cards.specs.Table.{pick};
 ghost use Rattle.cards.specs.Seen.{seen};
 ghost use Rattle.tricks.specs.Rules.{our-turn};
-ghost use Rattle.worth.specs.Value.{better as better-of, worst as worst-of, top as top-of};
 use cards::board::Board;
 use cards::player::Side;
 use tricks::turn::turn;
@@ -17,30 +17,23 @@ pub(crate) fn is_ours(board: &Board) -> bool
     }
 }
 
-// The better of two for who is to play.
-pub(crate) fn better(ours: bool, a: u8, b: u8) -> u8
-    ensures { λ r. ⌜ r ≡ better-of ours a b ⌝ }
+// The floor once a card brings a worth: our side can choose the card.
+pub(crate) fn raised(ours: bool, floor: u8, worth: u8) -> u8
+    ensures { λ r. ⌜ r ≡ pick ours (max floor worth) floor ⌝ }
 {
-    if ours { a.max(b) } else { a.min(b) }
+    if ours { floor.max(worth) } else { floor }
 }
 
-// The worst that who is to play can have of so many tricks.
-pub(crate) fn worst(ours: bool, tricks: u8) -> u8
-    ensures { λ r. ⌜ r ≡ worst-of ours tricks ⌝ }
+// The ceiling once a card brings a worth: the others can choose the card.
+pub(crate) fn lowered(ours: bool, ceiling: u8, worth: u8) -> u8
+    ensures { λ r. ⌜ r ≡ pick ours ceiling (min ceiling worth) ⌝ }
 {
-    if ours { 0 } else { tricks }
+    if ours { ceiling } else { ceiling.min(worth) }
 }
 
-// The best that who is to play can have of so many tricks.
-pub(crate) fn top(ours: bool, tricks: u8) -> u8
-    ensures { λ r. ⌜ r ≡ top-of ours tricks ⌝ }
+// What it comes to once every card was tried: our side has no more than the floor, the others allow no less than the ceiling.
+pub(crate) fn reached(ours: bool, floor: u8, ceiling: u8) -> u8
+    ensures { λ r. ⌜ r ≡ pick ours floor ceiling ⌝ }
 {
-    if ours { tricks } else { 0 }
-}
-
-// Whether no card can be better than the best so far.
-pub(crate) fn is_settled(best: u8, top: u8) -> bool
-    ensures { λ r. ⌜ r ≡ eqb best top ⌝ }
-{
-    best == top
+    if ours { floor } else { ceiling }
 }

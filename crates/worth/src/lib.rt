@@ -4,3 +4,4 @@ pub mod call;
 pub mod positions;
 pub mod search;
 pub mod stands;
+mod window;

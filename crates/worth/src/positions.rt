@@ -1,7 +1,7 @@
 // The positions that a search keeps, those at the start of a trick, each with its worth: in two lent slices, one slot each.
 ghost use mathlib.Core.Path.{_≡_};
 ghost use mathlib.Core.Bool.{_||_};
-ghost use Prim.Native.Nat.{ℕ, _*_, _/_, _%_, _^_, min, _<_};
+ghost use Prim.Native.Nat.{ℕ, _+_, _*_, _/_, _%_, _^_, _<_, min};
 ghost use lib.Dec.{eqb};
 ghost use lib.ListN.{length};
 ghost use Rattle.std.specs.Options.{Cases as BySome};
@@ -13,6 +13,13 @@ ghost use Rattle.worth.specs.Positions.{held, Key, Under, True};
 use cards::board::Board;
 use cards::hand::Hand;
 use cards::player::Player;
+
+// The slots to lend for hands of so many cards. Past eight cards a hand there are no more of them.
+pub fn slots(cards: u8) -> usize
+    ensures { λ r. ⌜ r ≡ 2 ^ (2 * min cards 8 + 4) ⌝ }
+{
+    1 << (2 * cards.min(8) + 4)
+}
 
 // The cards of four hands.
 fn all_of(a: Hand, b: Hand, c: Hand, d: Hand) -> Hand
@@ -50,23 +57,6 @@ fn slot(key: u64, slots: usize) -> usize
     ensures { λ r. ⌜ r < slots ⌝ }
 {
     ((key.wrapping_mul(0x9e37_79b9_7f4a_7c15) >> 32) % slots as u64) as usize
-}
-
-// How many slots serve a search of hands of so many cards, of eight at most: four times as many for each card more.
-pub fn slots(cards: u8) -> usize
-    ensures { λ r. ⌜ r ≡ 16 * 4 ^ min cards 8 ⌝ }
-{
-    match cards {
-        0 => 16,
-        1 => 64,
-        2 => 256,
-        3 => 1024,
-        4 => 4096,
-        5 => 16384,
-        6 => 65536,
-        7 => 262144,
-        _ => 1048576,
-    }
 }
 
 // Whether no card lies on the table.

@@ -1,7 +1,7 @@
 // The search: the worth of a table by trying the cards, to the last.
 ghost use mathlib.Core.Path.{_≡_};
 ghost use mathlib.Core.Bool.{true, false};
-ghost use Prim.Native.Nat.{ℕ, _+_, _*_, _<_};
+ghost use Prim.Native.Nat.{ℕ, _+_, _*_, _<_, _≤_};
 ghost use lib.ListN.{length};
 ghost use Rattle.std.specs.Options.{Cases as BySome};
 ghost use Rattle.cards.specs.Bits.{bit};
@@ -11,14 +11,18 @@ ghost use Rattle.tricks.specs.Taken.{taker-of};
 ghost use Rattle.tricks.specs.Moves.{After};
 ghost use Rattle.worth.specs.Value.{worth-of};
 ghost use Rattle.worth.specs.Positions.{Under, True};
-ghost use Rattle.worth.specs.Search.{Enough, left-with};
-use crate::best::better;
+ghost use Rattle.worth.specs.Search.{Enough, left-with, clamp};
 use crate::best::is_ours;
-use crate::best::is_settled;
-use crate::best::top;
-use crate::best::worst;
+use crate::best::lowered;
+use crate::best::raised;
+use crate::best::reached;
 use crate::positions::look_up;
 use crate::positions::store;
+use crate::window::high_after;
+use crate::window::is_closed;
+use crate::window::is_exact;
+use crate::window::low_after;
+use crate::window::nearest;
 use cards::board::Board;
 use cards::card::Card;
 use cards::hand::Hand;
@@ -69,45 +73,64 @@ fn left_with(taker: Option<Player>, left: u8) -> u8
     }
 }
 
-// The worth of a board with so many tricks left, which came of the root.
-fn search(board: Board, left: u8, root: &Board, keys: &mut [u64], worths: &mut [u8]) -> u8
+// The worth of a board with so many tricks left, which came of the root, or the nearest to it within low and high.
+fn search(
+    board: Board,
+    left: u8,
+    low: u8,
+    high: u8,
+    root: &Board,
+    keys: &mut [u64],
+    worths: &mut [u8],
+) -> u8
     requires left { ⌜ left ≡ tricks-left board ⌝ }
+    requires order { ⌜ low ≤ high ⌝ }
+    requires most { ⌜ high ≤ left ⌝ }
     requires under { ⌜ Under (seen (now root)) (seen board) ⌝ }
     requires some { ⌜ 0 < length (now keys) ⌝ }
     requires same { ⌜ length (now keys) ≡ length (now worths) ⌝ }
     requires kept { ⌜ True (seen (now root)) (now keys) (now worths) ⌝ }
-    ensures worth { λ r. ⌜ r ≡ worth-of (seen board) ⌝ }
+    ensures worth { λ r. ⌜ r ≡ clamp low high (worth-of (seen board)) ⌝ }
     ensures kept { λ _. ⌜ True (seen (now (root .entry))) (now (keys .exit)) (now (worths .exit)) ⌝ }
 {
-    if left == 0 {
-        return 0;
+    if is_closed(low, high) {
+        return low;
     }
     if let Some(worth) = look_up(&board, root, keys, worths) {
-        return worth;
+        return nearest(low, high, worth);
     }
     let ours = is_ours(&board);
-    let top = top(ours, left);
-    let mut best = worst(ours, left);
     let cards = candidates(&board);
-    'suits: for suit in 0..4u8 {
-        for rank in 0..13u8 {
+    let mut floor = low;
+    let mut ceiling = high;
+    'suits: for suit in (0..4u8).rev() {
+        for rank in (0..13u8).rev() {
             if let Some(played) = played_of(cards, &board, card_of(suit, rank)) {
-                let rest = search(
-                    played.board,
-                    left_with(played.taker, left),
-                    root,
-                    keys,
-                    worths,
-                );
-                best = better(ours, best, played.gain() + rest);
-                if is_settled(best, top) {
+                let gain = played.gain();
+                let rest = left_with(played.taker, left);
+                let worth = gain
+                    + search(
+                        played.board,
+                        rest,
+                        low_after(floor, gain),
+                        high_after(ceiling, gain, rest),
+                        root,
+                        keys,
+                        worths,
+                    );
+                floor = raised(ours, floor, worth);
+                ceiling = lowered(ours, ceiling, worth);
+                if is_closed(floor, ceiling) {
                     break 'suits;
                 }
             }
         }
     }
-    store(&board, best, root, keys, worths);
-    best
+    let worth = reached(ours, floor, ceiling);
+    if is_exact(low, high, left, worth) {
+        store(&board, worth, root, keys, worths);
+    }
+    worth
 }
 
 // The worth of a board that came of the root, with slots that were emptied for the root, or that an earlier search from it has left.
@@ -119,7 +142,8 @@ pub fn worth_under(board: &Board, root: &Board, keys: &mut [u64], worths: &mut [
     ensures worth { λ r. ⌜ r ≡ worth-of (seen (now (board .entry))) ⌝ }
     ensures kept { λ _. ⌜ True (seen (now (root .entry))) (now (keys .exit)) (now (worths .exit)) ⌝ }
 {
-    search(*board, tricks_left(board), root, keys, worths)
+    let left = tricks_left(board);
+    search(*board, left, 0, left, root, keys, worths)
 }
 
 // The worth of the root itself.

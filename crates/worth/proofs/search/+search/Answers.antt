@@ -1,82 +1,95 @@
-use mathlib.Core.Path.{_≡_, refl, sym, _∙_}
+use mathlib.Core.Path.{_≡_, refl, sym, ap₂, _∙_}
 use Prim.Native.Nat.{ℕ, _+_, _*_}
 use native.Mathlib.Omega.{arith}
 use Rattle.std.proofs.shelf.Tests.{eqb-true}
+use Rattle.cards.specs.Table.{pick}
 use Rattle.cards.specs.Bits.{bit}
 use Rattle.cards.specs.Seen.{seen}
 use Rattle.worth.specs.Value.{worth-of}
 use Rattle.worth.specs.Positions.{True}
-use Rattle.worth.proofs.SearchLaws.{none-left, after-falls, after-left, after-under, after-worth, after-within, So-far, so-far-none, so-far-skips, so-far-takes, so-far-all, so-far-settled}
+use Rattle.worth.specs.Search.{clamp}
+use Rattle.worth.proofs.WindowLaws.{still-open}
+use Rattle.worth.proofs.SearchLaws.{after-falls, after-left, after-under, after-window, after-found, exact-worth, So-far, so-far-none, so-far-skips, so-far-takes, so-far-all, so-far-closed}
 use Rattle.worth.proofs.search.+search.Needs as need
-use Rattle.worth.proofs.search.+search.Needs.{Left-suits, in-Some-played-of·else-is-settled, in-rest-played-of, else-suits-test, then-suits-test·then-loop-rank-test·in-Some-played-of·then-is-settled}
-
-pub returns-then-left-eq0 : need.returns-then-left-eq0
-returns-then-left-eq0 t c = record { worth = none-left (c .args .board) (c .args .left) (c .pre .left) (omega arith); kept = c .pre .kept }
+use Rattle.worth.proofs.search.+search.Needs.{Left-suits, else-suits-test, then-suits-test·then-loop-rank-test·in-Some-played-of·then-is-closed-2}
 
 pub suits-holds : need.suits-holds
-suits-holds t c = so-far-none _ _ _ _ (c .is-ours-ours .result) _ _ _ (c .is-ours-ours .ensures) (c .worst-best .ensures) (c .pre .kept)
+suits-holds t c =
+    let some = still-open (c .args .low) (c .args .high) (c .is-closed .result) (c .pre .order) (c .is-closed .ensures) (c .if-is-closed .left) in
+    (so-far-none _ (c .args .board) _ _ _ _ _ _ _ (c .pre .left) (c .candidates-cards .ensures) refl some (c .pre .most) (c .pre .kept), some)
 
-pub search-rest-requires : need.search-rest-requires
-search-rest-requires t c κs =
+pub search-requires : need.search-requires
+search-requires t c κs =
     let b = c .args .board in
     let x = c .card-of .result .number in
     let p = c .in-Some-played-of .played in
-    let done = c .in-Some-played-of .ensures tt .1 in (
-      after-falls b x p done t (c .measured),
-      (after-left b x p done (c .args .left) _ (c .pre .left) (c .left-with .ensures), (after-under b x p done _ (c .pre .under), (omega arith, (omega arith, c .loop-rank .inv .kept)))),
-    )
+    let done = c .in-Some-played-of .ensures tt .1 in
+    let left = after-left b x p done (c .args .left) _ (c .pre .left) (c .left-with-rest .ensures) in
+    let order = after-window b x p done (c .args .left) _ _ (c .loop-rank .floor) (c .loop-rank .ceiling) _ _ (c .left-with-rest .ensures) (c .gain-gain .ensures) (c .loop-rank .inv .1)
+    (c .loop-rank .inv .0 .most) (c .low-after .ensures) (c .high-after .ensures) in
+    (after-falls b x p done t (c .measured), (left, (order, (omega (arith, c .high-after .ensures), (after-under b x p done _ (c .pre .under), (omega arith, (omega arith, c .loop-rank .inv .0 .kept)))))))
 
-pub add-gain : need.add-gain
-add-gain t c =
-    omega (
-      arith,
-      after-within (c .args .board) (c .card-of .result .number) (c .in-Some-played-of .played) (c .in-Some-played-of .ensures tt .1) (c .args .left) _ _
-          (c .pre .left) (c .gain .ensures) (c .search-rest .ensures .worth),
-    )
-
-pub loop-rank-again : need.loop-rank-again
-loop-rank-again t c =
+pub loop-rank-again-else-is-closed-2 : need.loop-rank-again-else-is-closed-2
+loop-rank-again-else-is-closed-2 t c =
     let b = c .args .board in
     let x = c .card-of .result .number in
     let set = bit (c .candidates-cards .result .bits) in
-    let here : So-far (seen (c .args .root .now)) (seen b) (c .args .left) set x (c .loop-rank .best) (c .loop-rank .keys) (c .loop-rank .worths) = rw (c .card-of .ensures) (c .loop-rank .inv) in
-    elim (c .match-played-of .came) [
-      | in-Some-played-of·else-is-settled w ↦
-          let (in-set, done) = w .in-Some-played-of .ensures tt in
-          rw (w .best-is, w .keys-is, w .worths-is)
-          (so-far-takes _ _ _ set x _ _ _ _ (c .is-ours-ours .result) _ _ _ _ (omega (arith, c .card-of .ensures)) in-set (c .is-ours-ours .ensures)
-          (after-worth b x (w .in-Some-played-of .played) done _ _ (w .gain .ensures) (w .search-rest .ensures .worth)) (w .better-best .ensures) (w .search-rest .ensures .kept) here)
-      | in-rest-played-of w ↦
-          rw (w .best-is, w .keys-is, w .worths-is) (so-far-skips _ _ _ set x _ _ _ _ (omega (arith, c .card-of .ensures)) (w .in-rest-played-of .ensures tt) here)
-    ]
+    let (in-set, done) = c .in-Some-played-of .ensures tt in
+    let s = so-far-takes _ (seen b) (c .args .left) (c .args .low) (c .args .high) set x _ (c .loop-rank .floor) (c .loop-rank .ceiling) _ _ _ (c .is-ours-ours .result) _ _ _ _ (omega (arith, c .card-of .ensures)) in-set (c .is-ours-ours .ensures)
+    (after-found b x (c .in-Some-played-of .played) done (c .args .left) _ _ (c .loop-rank .floor) (c .loop-rank .ceiling) _ _ (c .left-with-rest .ensures) (c .gain-gain .ensures)
+    (c .loop-rank .inv .1) (c .loop-rank .inv .0 .most) (c .low-after .ensures) (c .high-after .ensures) _ (c .pre .left) (c .search .ensures .worth))
+    (c .raised-floor .ensures) (c .lowered-ceiling .ensures) (c .search .ensures .kept) (c .loop-rank .inv .0) in
+    (rw (c .card-of .ensures) at s, still-open (c .raised-floor .result) (c .lowered-ceiling .result) (c .is-closed-in-Some-played-of .result) (s .order) (c .is-closed-in-Some-played-of .ensures) (c .if-is-closed-2 .left))
+
+pub loop-rank-again : need.loop-rank-again
+loop-rank-again t c =
+    let x = c .card-of .result .number in
+    let s = so-far-skips _ (seen (c .args .board)) (c .args .left) (c .args .low) (c .args .high) (bit (c .candidates-cards .result .bits)) x _ (c .loop-rank .floor) (c .loop-rank .ceiling) _ _
+    (omega (arith, c .card-of .ensures)) (c .in-rest-played-of .ensures tt) (c .loop-rank .inv .0) in
+    (rw (c .card-of .ensures) at s, c .loop-rank .inv .1)
 
 -- after the loops, however they were left
-settled : (t : ℕ) (c : need.Left-suits t) → (c .suits-test .best ≡ worth-of (seen (c .args .board))) × True (seen (c .args .root .now)) (c .suits-test .keys) (c .suits-test .worths)
+settled : (t : ℕ) (c : need.Left-suits t) →
+    (pick (c .is-ours-ours .result) (c .suits-test .floor) (c .suits-test .ceiling) ≡ clamp (c .args .low) (c .args .high) (worth-of (seen (c .args .board))))
+    × True (seen (c .args .root .now)) (c .suits-test .keys) (c .suits-test .worths)
 settled t c =
     let b = c .args .board in
-    let set = bit (c .candidates-cards .result .bits) in
+    let ours = c .is-ours-ours .result in
     elim (c .suits-test .came) [
       | else-suits-test w ↦ (
-        w .best-is ∙ so-far-all _ b (c .args .left) set (c .pre .left) (omega arith) (c .candidates-cards .ensures) _ _ _ _ (omega arith) (c .suits .inv),
-        rw (w .keys-is, w .worths-is) (c .suits .inv .kept),
+        ap₂ (pick ours) (w .floor-is) (w .ceiling-is)
+            ∙ so-far-all _ (seen b) (c .args .left) (c .args .low) (c .args .high) (bit (c .candidates-cards .result .bits)) _ _ _ ours _ _ (omega arith) (c .is-ours-ours .ensures) (c .suits .inv .0),
+        rw (w .keys-is, w .worths-is) (c .suits .inv .0 .kept),
       )
-      | then-suits-test·then-loop-rank-test·in-Some-played-of·then-is-settled w ↦
+      | then-suits-test·then-loop-rank-test·in-Some-played-of·then-is-closed-2 w ↦
           let x = w .card-of .result .number in
           let (in-set, done) = w .in-Some-played-of .ensures tt in
-          let here : So-far (seen (c .args .root .now)) (seen b) (c .args .left) set x (w .loop-rank .best) (w .loop-rank .keys) (w .loop-rank .worths) = rw (w .card-of .ensures) (w .loop-rank .inv) in (
-            w .best-is
-                ∙ so-far-settled _ b (c .args .left) set (c .pre .left) (omega arith) (c .candidates-cards .ensures) (x + 1) _ (c .is-ours-ours .result) _ _ (omega (arith, w .card-of .result .low))
-                (c .is-ours-ours .ensures) (eqb-true _ _ (sym (w .is-settled .ensures) ∙ w .if-is-settled .taken) ∙ c .top-top .ensures)
-                (so-far-takes _ _ _ set x _ _ _ _ (c .is-ours-ours .result) _ _ _ _ refl in-set (c .is-ours-ours .ensures)
-                (after-worth b x (w .in-Some-played-of .played) done _ _ (w .gain .ensures) (w .search-rest .ensures .worth)) (w .better-best .ensures) (w .search-rest .ensures .kept) here),
-            rw (w .keys-is, w .worths-is) (w .search-rest .ensures .kept),
+          let s = so-far-takes _ (seen b) (c .args .left) (c .args .low) (c .args .high) (bit (c .candidates-cards .result .bits)) x _ (w .loop-rank .floor) (w .loop-rank .ceiling) _ _ _ ours _ _ _ _
+          (omega (arith, w .card-of .ensures)) in-set (c .is-ours-ours .ensures)
+          (after-found b x (w .in-Some-played-of .played) done (c .args .left) _ _ (w .loop-rank .floor) (w .loop-rank .ceiling) _ _ (w .left-with-rest .ensures) (w .gain-gain .ensures)
+          (w .loop-rank .inv .1) (w .loop-rank .inv .0 .most) (w .low-after .ensures) (w .high-after .ensures) _ (c .pre .left) (w .search .ensures .worth))
+          (w .raised-floor .ensures) (w .lowered-ceiling .ensures) (w .search .ensures .kept) (w .loop-rank .inv .0) in
+          let met = eqb-true (w .raised-floor .result) (w .lowered-ceiling .result) (sym (w .is-closed-in-Some-played-of .ensures) ∙ w .if-is-closed-2 .taken) in (
+            ap₂ (pick ours) (w .floor-is) (w .ceiling-is) ∙ so-far-closed _ (seen b) (c .args .left) (c .args .low) (c .args .high) (bit (c .candidates-cards .result .bits)) x _ _ ours _ _ met s,
+            rw (w .keys-is, w .worths-is) (w .search .ensures .kept),
           )
     ]
 
 pub store-requires : need.store-requires
 store-requires t c κs =
-    let h = settled t (need.at·store-requires t c .Left-suits) in
-    record { worth = h .0; under = c .pre .under; some = omega arith; same = omega arith; kept = h .1 }
+    let (worth, kept) = settled t (need.at·store-requires t c .Left-suits) in
+    record {
+      worth = exact-worth (c .args .board) (c .args .low) (c .args .high) (c .args .left) _ (c .pre .left) (c .reached-worth .ensures ∙ worth) (sym (c .is-exact .ensures) ∙ c .if-is-exact .taken);
+      under = c .pre .under;
+      some = omega arith;
+      same = omega arith;
+      kept = kept;
+    }
 
-pub returns : need.returns
-returns t c = record { worth = settled t (need.at·returns t c .Left-suits) .0; kept = c .store .ensures }
+pub returns-then-is-exact : need.returns-then-is-exact
+returns-then-is-exact t c = record { worth = c .reached-worth .ensures ∙ settled t (need.at·returns-then-is-exact t c .Left-suits) .0; kept = c .store .ensures }
+
+pub returns-else-is-exact : need.returns-else-is-exact
+returns-else-is-exact t c =
+    let (worth, kept) = settled t (need.at·returns-else-is-exact t c .Left-suits) in
+    record { worth = c .reached-worth .ensures ∙ worth; kept = kept }
