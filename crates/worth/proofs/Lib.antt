@@ -5,5 +5,6 @@ pub mod ValueLaws
 pub mod OtherSide
 mod EqualLaws
 pub mod PositionLaws
+pub mod MoveLaws
 mod WindowLaws
 mod SearchLaws

@@ -17,12 +17,11 @@ use Rattle.tricks.specs.Taken.{taker-of, gain-of}
 use Rattle.tricks.specs.Moves.{After}
 use Rattle.tricks.specs.declared.play.Played.{Played}
 use Rattle.worth.specs.Value.{worst, cards-left, best-below, worth-of}
-use Rattle.worth.specs.Positions.{Under, True}
+use Rattle.worth.specs.Positions.{True}
 use Rattle.worth.specs.Search.{Enough, left-with, clamp, exact}
 use Rattle.worth.proofs.CardsLeft.{cards-are, cards-after}
 use Rattle.worth.proofs.BestLaws.{by-card, best-none, best-takes, best-skips}
 use Rattle.worth.proofs.ValueLaws.{worth-low, worth-step}
-use Rattle.worth.proofs.PositionLaws.{under-after}
 use Rattle.worth.proofs.WindowLaws.{raised, lowered, lowered-least, clamp-one, clamp-all, clamp-exact, clamp-worst, after-order, narrows, narrows-order, found-is}
 
 -- a card takes at most one trick off those left, and brings at most one
@@ -58,9 +57,6 @@ module _ (b : Board) (c : ℕ) (p : Played) (played : After b c p) where
       by : (x : Bool) → left-with (pick x (Some (winner (seen b) (seen b .trick ++ (c ∷ [])))) None) (tricks-left b) ≡ pick x (tricks-left b - 1) (tricks-left b)
       by true = refl
       by false = refl
-
-  pub after-under : (root : Table) → Under root (seen b) → Under root (seen (p .board))
-  after-under root u = under-after root (seen b) (seen (p .board)) c u (played .table)
 
   -- the window for what follows it, and that what is found of a card is the nearest to what it brings
   module _ (left rest gain floor ceiling low high : ℕ) (e : rest ≡ left-with (taker-of (p .taker)) left) (g : gain ≡ gain-of (taker-of (p .taker)))

@@ -120,3 +120,7 @@ skipping set t n legal stands-in =
     best-same set worth-of (may t) worth-of n t deck
     (λ c l y. (c, l, legal c y, refl))
     (λ c l m. let (d, y, g, r) = stands-in c m in (d, may-parts t d (legal d y) .card, y, omega arith))
+
+-- no card gives more than the tricks left
+pub card-within : (t : Table) (n c : ℕ) → Sound t n → may t c ≡ true → gains t c + worth-of (after t c) ≤ n
+card-within t n c s m = by-low t n s worth-of (λ d k. value-is-worth (after t d) (left-after t n) (keeps-sound t n d s k)) c m

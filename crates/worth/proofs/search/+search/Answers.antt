@@ -9,7 +9,8 @@ use Rattle.worth.specs.Value.{worth-of}
 use Rattle.worth.specs.Positions.{True}
 use Rattle.worth.specs.Search.{clamp}
 use Rattle.worth.proofs.WindowLaws.{still-open}
-use Rattle.worth.proofs.SearchLaws.{after-falls, after-left, after-under, after-window, after-found, exact-worth, So-far, so-far-none, so-far-skips, so-far-takes, so-far-all, so-far-closed}
+use Rattle.worth.proofs.MoveLaws.{after-under}
+use Rattle.worth.proofs.SearchLaws.{after-falls, after-left, after-window, after-found, exact-worth, So-far, so-far-none, so-far-skips, so-far-takes, so-far-all, so-far-closed}
 use Rattle.worth.proofs.search.+search.Needs as need
 use Rattle.worth.proofs.search.+search.Needs.{Left-suits, else-suits-test, then-suits-test·then-loop-rank-test·in-Some-played-of·then-is-closed-2}
 

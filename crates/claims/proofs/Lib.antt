@@ -1,0 +1,10 @@
+pub mod LowestLaws
+pub mod CardLaws
+pub mod ClaimLaws
+pub mod AdviceLaws
+pub mod LineLaws
+pub mod PlayedLaws
+pub mod FailLaws
+pub mod TriedLaws
+pub mod ReplyLaws
+pub mod JudgeLaws

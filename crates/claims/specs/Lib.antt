@@ -1,0 +1,9 @@
+pub mod Claims
+pub mod Advice
+pub mod Line
+pub mod Failing
+pub mod Claimed
+pub mod Tried
+pub mod Answer
+pub mod Judging
+pub mod Judged
