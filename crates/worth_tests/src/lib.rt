@@ -15,7 +15,7 @@ mod tests {
     };
 
     // tables with their worth: trump and leader, and the hands from player 0 on
-    const TABLES: [(&[u8], u8); 9] = [
+    const TABLES: [(&[u8], u8); 13] = [
         // none, 0: SA / SK / SQ / SJ
         (&[4, 0, 0, 1, 51, 1, 50, 1, 49, 1, 48], 1),
         // none, 0: S2 / SK / SQ / SJ
@@ -103,6 +103,61 @@ mod tests {
             ],
             2,
         ),
+        // tables that errors about equal cards would take for another worth
+        // a card on the table forgotten between two that look equal, it would be 1: none, 2, trick -: D3 D6 / CJ CQ / CK D5 / CA D2
+        (&[4, 2, 0, 2, 14, 17, 2, 9, 10, 2, 11, 16, 2, 12, 13], 2),
+        // equal over a card of the partner, it would be 2: H, 2, trick -: DK S7 SA / D7 S5 ST / D3 DT DA / D4 D9 SJ
+        (
+            &[
+                2,
+                2,
+                0,
+                3,
+                24,
+                44,
+                51,
+                3,
+                18,
+                42,
+                47,
+                3,
+                14,
+                21,
+                25,
+                3,
+                15,
+                20,
+                48,
+            ],
+            3,
+        ),
+        // equal over a card of an opponent, it would be 1: none, 0, trick DJ: S7 SK / H9 S4 ST / C3 D4 H5 / C5 CQ SJ
+        (
+            &[
+                4,
+                0,
+                1,
+                22,
+                2,
+                44,
+                50,
+                3,
+                33,
+                41,
+                47,
+                3,
+                1,
+                15,
+                29,
+                3,
+                3,
+                10,
+                48,
+            ],
+            2,
+        ),
+        // equal across two suits, it would be 1: D, 0, trick SK S5 S6: HT / DK / S4 / C4 D3
+        (&[1, 0, 3, 50, 42, 43, 1, 34, 1, 24, 1, 41, 2, 2, 14], 0),
     ];
 
     // The worth of a deal; 9 where it is refused.
