@@ -1,12 +1,13 @@
 -- Who plays by the advice to the end gets the worth. Assumes nothing.
 use mathlib.Core.Path.{_≡_, refl, sym, ap, subst, _∙_}
 use mathlib.Core.Logic.{inl, inr}
-use mathlib.Core.Bool.{Bool, true, false, not}
+use mathlib.Core.Bool.{Bool, true, not}
 use mathlib.Core.List.{[], _∷_}
 use Prim.Native.Nat.{ℕ, _+_, _%_}
 use native.Mathlib.Omega.{arith}
+use lib.Dec.{eqb}
 use lib.ListN.{length, length-append}
-use Rattle.std.proofs.shelf.Tests.{both-ways, and-parts, cases-lt}
+use Rattle.std.proofs.shelf.Tests.{and-parts, cases-lt}
 use Rattle.cards.specs.Table.{Table, deck, Sound}
 use Rattle.cards.proofs.CountLaws.{count-pos}
 use Rattle.tricks.specs.Rules.{turn, our-turn, may, after, gains}
@@ -16,6 +17,7 @@ use Rattle.worth.proofs.CardsLeft.{cards-are, no-trick}
 use Rattle.worth.proofs.ValueLaws.{worth-low, worth-is}
 use Rattle.claims.specs.Advice.{Advises, Played, over, by-advice, by-other, Pays, Advice-pays}
 use Rattle.claims.specs.Line.{Line, start, then-advice, then-other}
+use Rattle.claims.proofs.TurnLaws.{one-side, alternates}
 use Rattle.claims.proofs.LineLaws.{never-below}
 
 -- with no trick left nothing lies on the table, so no card gains
@@ -33,7 +35,7 @@ module _ (t : Table) (c : ℕ) (s : Sound t 0) where
 
   -- after a card that nobody has the other side is to play, and has none
   other-turn : our-turn (after t c) ≡ not (our-turn t)
-  other-turn = let e = empty-trick in let f = next-turn in grind arith
+  other-turn = alternates t c (ap (λ (l : ℕ). eqb l 3) empty-trick)
 
   none-may : (d : ℕ) → may (after t c) d ≡ true → ⊥
   unfolding after
@@ -47,10 +49,6 @@ module _ (t : Table) (c : ℕ) (s : Sound t 0) where
 no-play : (side : Bool) (adv : Table → ℕ) (u : Table) (g : ℕ) → ((d : ℕ) → may u d ≡ true → ⊥) → our-turn u ≡ not side → Played side adv u g → g ≡ 0
 no-play side adv u _ f o (over e) = refl
 no-play side adv u _ f o (by-advice p q) = absurd (one-side side (sym p ∙ o))
-  where
-    one-side : (b : Bool) → b ≡ not b → ⊥
-    one-side true e = both-ways true e refl
-    one-side false e = both-ways false refl e
 no-play side adv u _ f o (by-other c p m q) = absurd (f c m)
 
 -- with no trick left a play brings none, whatever the advice

@@ -1,5 +1,5 @@
 -- The reply to a card of the side that claims, and the row of replies. Assumes nothing.
-use mathlib.Core.Path.{_≡_, refl, sym, ap, ap₂, subst, _∙_}
+use mathlib.Core.Path.{_≡_, refl, sym, ap, ap₂, _∙_}
 use mathlib.Core.Logic.{inl, inr}
 use mathlib.Core.Bool.{Bool, true, false, not, _&&_}
 use mathlib.Core.List.{List, [], _∷_, _++_, map}
@@ -109,32 +109,32 @@ replies-next side n k t i m e =
     ∙ ap (λ (b : Bool). pick b (replies-below side n k t i ++ (answered side n k t i ∷ [])) (replies-below side n k t i)) e
 
 -- the first `size` of an array of eight are the replies to the cards below i, and what the slots keep is true
-pub record Replied (root t : Table) (side : Bool) (n k i : ℕ) (row : List Reply) (size : ℕ) (keys worths : List ℕ) : Type 0 where
+pub record RowSoFar (root t : Table) (side : Bool) (n k i : ℕ) (row : List Reply) (size : ℕ) (keys worths : List ℕ) : Type 0 where
   pub eight : length row ≡ most-tricks
   pub many : size ≡ count (may t) i
   pub told : row-told row size ≡ replies-below side n k t i
   pub kept : True root keys worths
 
 module _ (root t : Table) (side : Bool) (n k : ℕ) where
-  pub replied-none : (row : List Reply) (keys worths : List ℕ) → length row ≡ most-tricks → True root keys worths → Replied root t side n k 0 row 0 keys worths
+  pub row-none : (row : List Reply) (keys worths : List ℕ) → length row ≡ most-tricks → True root keys worths → RowSoFar root t side n k 0 row 0 keys worths
   unfolding count replies-below
-  replied-none row keys worths e h = record { eight = e; many = refl; told = refl; kept = h }
+  row-none row keys worths e h = record { eight = e; many = refl; told = refl; kept = h }
 
   -- card x, the next
-  module _ (i x : ℕ) (next : x ≡ i) (row : List Reply) (size : ℕ) (keys worths : List ℕ) (r : Replied root t side n k i row size keys worths) where
+  module _ (i x : ℕ) (next : x ≡ i) (row : List Reply) (size : ℕ) (keys worths : List ℕ) (r : RowSoFar root t side n k i row size keys worths) where
     -- it may not be played
-    pub replied-skips : (keys′ worths′ : List ℕ) → True root keys′ worths′ → may t x ≡ false → Replied root t side n k (i + 1) row size keys′ worths′
-    replied-skips keys′ worths′ h m =
+    pub row-skips : (keys′ worths′ : List ℕ) → True root keys′ worths′ → may t x ≡ false → RowSoFar root t side n k (i + 1) row size keys′ worths′
+    row-skips keys′ worths′ h m =
         let illegal : may t i ≡ false = ap (may t) (sym next) ∙ m in
         record { eight = r .eight; many = omega (arith, r .many, count-next (may t) i, ap one illegal); told = r .told ∙ sym (replies-next side n k t i false illegal); kept = h }
 
     -- it may, and finds a place
-    pub reply-place : InOrder t n → x < deck → may t x ≡ true → size < most-tricks
-    reply-place o l m = omega (arith, r .many, may-few t n o, count-next (may t) i, ap one (ap (may t) (sym next) ∙ m), count-up (may t) (i + 1) deck (omega arith))
+    pub row-place : InOrder t n → x < deck → may t x ≡ true → size < most-tricks
+    row-place o l m = omega (arith, r .many, may-few t n o, count-next (may t) i, ap one (ap (may t) (sym next) ∙ m), count-up (may t) (i + 1) deck (omega arith))
 
-    pub replied-more : (keys′ worths′ : List ℕ) → True root keys′ worths′ → (y : Reply) → size < most-tricks → may t x ≡ true → reply-told y ≡ answered side n k t x →
-        Replied root t side n k (i + 1) (set row size y) (size + 1) keys′ worths′
-    replied-more keys′ worths′ h y l m e =
+    pub row-more : (keys′ worths′ : List ℕ) → True root keys′ worths′ → (y : Reply) → size < most-tricks → may t x ≡ true → reply-told y ≡ answered side n k t x →
+        RowSoFar root t side n k (i + 1) (set row size y) (size + 1) keys′ worths′
+    row-more keys′ worths′ h y l m e =
         let legal : may t i ≡ true = ap (may t) (sym next) ∙ m in
         record {
           eight = length-set row size y ∙ r .eight;

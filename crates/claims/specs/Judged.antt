@@ -17,6 +17,7 @@ use Rattle.worth.specs.Positions.{True}
 use Rattle.worth.specs.Answer.{usable, TurnedAway}
 use Rattle.claims.specs.Claims.{Can, Cannot}
 use Rattle.claims.specs.Judging.{Answered, Judging, upholds, fails-by, replies, judging}
+use Rattle.claims.specs.Shown.{Shows}
 use Rattle.claims.specs.declared.replies.Reply.{Reply}
 use Rattle.claims.specs.declared.judge.Judgement.{Judgement}
 use Rattle.claims.specs.declared.judge.Judgement.the-variants.{Upheld, Fails, Replies}
@@ -48,7 +49,8 @@ worth-told (fails-by w c) = w
 worth-told (replies w rs) = w
 
 -- a judgement of the claim of k of n tricks at table t: no more are claimed than are left, and the slices can be used; it is the one that is defined,
--- it upholds what the side can take and nothing else, refuses what the other side can keep it from and nothing else, and tells the worth; and what the slices hold afterwards is true
+-- it upholds what the side can take and nothing else, refuses what the other side can keep it from and nothing else, tells the worth, and shows by its cards why;
+-- and what the slices hold afterwards is true
 pub record JudgementTold (side : Bool) (n k : ℕ) (t : Table) (keys worths keys′ worths′ : List ℕ) (j : Judging) : Type 0 where
   pub claimed : leb k n ≡ true
   pub lent : usable keys worths ≡ true
@@ -56,6 +58,7 @@ pub record JudgementTold (side : Bool) (n k : ℕ) (t : Table) (keys worths keys
   pub upheld-if : Decides (is-upheld j) (Can side n k t)
   pub refused-if : Decides (not (is-upheld j)) (Cannot side n k t)
   pub worth : Worth t (worth-told j)
+  pub shows : Shows side n k t j
   pub kept : True t keys′ worths′
 
 -- more are claimed than are left: a refusal, 10 at 0, and the slices are as they were

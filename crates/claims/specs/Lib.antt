@@ -6,4 +6,5 @@ pub mod Claimed
 pub mod Tried
 pub mod Answer
 pub mod Judging
+pub mod Shown
 pub mod Judged

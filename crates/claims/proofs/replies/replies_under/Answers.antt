@@ -2,16 +2,16 @@ use mathlib.Core.Path.{refl}
 use Prim.Native.Nat.{_<_}
 use native.Mathlib.Omega.{arith}
 use Rattle.cards.proofs.Order.{in-order}
-use Rattle.claims.proofs.ReplyLaws.{replied-none, replied-skips, reply-place, replied-more}
+use Rattle.claims.proofs.ReplyLaws.{row-none, row-skips, row-place, row-more}
 use Rattle.claims.proofs.replies.replies_under.Needs as need
 use Rattle.claims.proofs.replies.replies_under.Needs.{In-Some, in-Some, in-rest, at·cast-replies, at·offset-replies-count, at·add-count}
 
 pub loop-number-holds : need.loop-number-holds
-loop-number-holds c = replied-none _ _ _ _ _ _ _ _ refl (c .pre .kept)
+loop-number-holds c = row-none _ _ _ _ _ _ _ _ refl (c .pre .kept)
 
 -- there is a place for the reply to a card that may be played
 place : (c : In-Some) → c .loop-number .count < 8
-place c = reply-place _ _ _ _ _ _ _ (c .nth-card .ensures) _ _ _ _ (c .loop-number .inv) (in-order (c .args .board .now)) (c .nth-card .result .low) (c .in-Some .ensures tt .reply .0)
+place c = row-place _ _ _ _ _ _ _ (c .nth-card .ensures) _ _ _ _ (c .loop-number .inv) (in-order (c .args .board .now)) (c .nth-card .result .low) (c .in-Some .ensures tt .reply .0)
 
 pub cast-replies : need.cast-replies
 cast-replies c = omega (arith, place (at·cast-replies c .In-Some))
@@ -29,7 +29,7 @@ pub loop-number-again : need.loop-number-again
 loop-number-again c = elim (c .match-reply-to .came) [
   | in-Some w ↦
       let (m, told) = w .in-Some .ensures tt .reply in
-      let low = reply-place _ _ _ _ _ _ _ (c .nth-card .ensures) _ _ _ _ (c .loop-number .inv) (in-order (c .args .board .now)) (c .nth-card .result .low) m in
-      rw (w .replies-is, w .count-is) (replied-more _ _ _ _ _ _ _ (c .nth-card .ensures) _ _ _ _ (c .loop-number .inv) _ _ (w .in-Some .ensures tt .kept) _ low m told)
-  | in-rest w ↦ rw (w .replies-is, w .count-is) (replied-skips _ _ _ _ _ _ _ (c .nth-card .ensures) _ _ _ _ (c .loop-number .inv) _ _ (w .in-rest .ensures tt .kept) (w .in-rest .ensures tt .reply))
+      let low = row-place _ _ _ _ _ _ _ (c .nth-card .ensures) _ _ _ _ (c .loop-number .inv) (in-order (c .args .board .now)) (c .nth-card .result .low) m in
+      rw (w .replies-is, w .count-is) (row-more _ _ _ _ _ _ _ (c .nth-card .ensures) _ _ _ _ (c .loop-number .inv) _ _ (w .in-Some .ensures tt .kept) _ low m told)
+  | in-rest w ↦ rw (w .replies-is, w .count-is) (row-skips _ _ _ _ _ _ _ (c .nth-card .ensures) _ _ _ _ (c .loop-number .inv) _ _ (w .in-rest .ensures tt .kept) (w .in-rest .ensures tt .reply))
 ]

@@ -3,7 +3,7 @@ use Rattle.std.specs.declared.option.Option.{Option}
 use Prim.Native.Nat.{ℕ}
 use Rattle.worth.proofs.MoveLaws.{after-under}
 use Rattle.claims.specs.Claimed.{claims-side, claims-tricks}
-use Rattle.claims.specs.Judging.{next-failing, Answered}
+use Rattle.claims.specs.Judging.{next-failing}
 use Rattle.claims.proofs.ReplyLaws.{rest-is}
 use Rattle.claims.proofs.replies.reply_to.Needs as need
 
