@@ -108,8 +108,8 @@ fn board_after(board: &Board, card: Card, taker: Option<Player>) -> Board
     }
 }
 
-// What comes of a card that may be played.
-fn played_lawfully(board: &Board, card: Card) -> Played
+// What comes of a card that may be played. For a search, which knows that it may; others call `play`.
+pub fn played_lawfully(board: &Board, card: Card) -> Played
     requires { ⌜ may (seen (now board)) (card .number) ≡ true ⌝ }
     ensures { λ r. ⌜ After (now (board .entry)) (card .number) r ⌝ }
 {

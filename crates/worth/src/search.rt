@@ -29,7 +29,7 @@ use cards::hand::Hand;
 use cards::player::Player;
 use equals::lowest::lowest_equals;
 use tricks::play::Played;
-use tricks::play::play;
+use tricks::play::played_lawfully;
 use tricks::turn::tricks_left;
 
 // The cards to look at: of cards that are as good as each other the lowest.
@@ -56,7 +56,7 @@ fn played_of(cards: Hand, board: &Board, card: Card) -> Option<Played>
     ensures { λ r. ⌜ BySome r (bit (cards .bits) (card .number) ≡ false) (λ p. (bit (cards .bits) (card .number) ≡ true) × After (now (board .entry)) (card .number) p) ⌝ }
 {
     if cards.holds(card) {
-        play(board, card)
+        Some(played_lawfully(board, card))
     } else {
         None
     }
