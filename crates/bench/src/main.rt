@@ -1,5 +1,7 @@
 // The benchmark of the search: reads tables, each after a byte for its length, and prints for each
 // the cards in a hand, its worth and the nanoseconds that the search took.
+#![tactic(auto)]
+
 use anyhow::anyhow;
 use cards::board::Board;
 use cards::reader::read_deal;

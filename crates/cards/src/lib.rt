@@ -1,4 +1,6 @@
 // Cards, players, hands and the table, and the reader that makes a table of a deal in bytes.
+#![tactic(auto)]
+
 pub mod board;
 pub mod card;
 pub mod deal;

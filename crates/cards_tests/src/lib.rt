@@ -1,4 +1,6 @@
 // Tests of the reader: deals that are taken, and each refusal at each of its places.
+#![tactic(auto)]
+
 
 #[cfg(test)]
 mod tests {

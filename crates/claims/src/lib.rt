@@ -1,4 +1,6 @@
 // Claims of the tricks left, judged; advice, and playing on by it; and both from bytes to the answer.
+#![tactic(auto)]
+
 pub mod advice;
 pub mod bytes;
 pub mod claim;

@@ -1,4 +1,6 @@
 // What both programs do around the answer: their argument, their input, and the memory for positions.
+#![tactic(auto)]
+
 ghost use Rattle.std.specs.Prelude.{◌≡◌, ◌+◌, ◌*◌, ◌^◌, ◌≤◌, min, ◌⊎◌, IfSome, IfOk, vec_len};
 ghost use Rattle.console.specs.Served.{served};
 

@@ -1,4 +1,6 @@
 // Judges a claim: reads a deal, a row of cards and a claim from standard input, and prints what it says of them.
+#![tactic(auto)]
+
 use claims::bytes::judge_bytes;
 use console::{lend_keys, lend_worths, most_cards, read_input, show_usage};
 use text::Shown;

@@ -1,4 +1,6 @@
 // Plays on: reads a deal, a byte for the side that it plays and the other side's cards from standard input, plays its own by advice, and prints the plays.
+#![tactic(auto)]
+
 use cards::card::Card;
 use cards::player::Player;
 use claims::bytes::play_bytes;

@@ -1,2 +1,4 @@
 // A row of cards, played on a table.
+#![tactic(auto)]
+
 pub mod row;

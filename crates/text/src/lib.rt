@@ -1,4 +1,6 @@
 // Cards, tables, refusals, judgements and plays as text. None ends with a newline.
+#![tactic(auto)]
+
 pub mod card;
 pub mod deal;
 pub mod hand;

@@ -1,4 +1,6 @@
 // Tests of the worth: tables whose worth is known.
+#![tactic(auto)]
+
 
 #[cfg(test)]
 mod tests {

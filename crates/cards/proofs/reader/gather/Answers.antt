@@ -7,13 +7,13 @@ use Rattle.cards.proofs.reader.gather.Goals as goal
 pub loop-i-init : goal.loop-i-init
 loop-i-init c = going_none (bit c.args.taken.bits) c.args.from (take c.args.count (drop c.args.from c.args.bytes.now)) c.empty-hand.result.bits c.empty-hand.ensures
 
-pub returns-in-default : goal.returns-in-default
-returns-in-default c =
+pub returns-in_default : goal.returns-in_default
+returns-in_default c =
     let bs = c.args.bytes.now in
     let cs = take c.args.count (drop c.args.from bs) in
     let n : length cs ≡ c.args.count = part_length bs c.args.from c.args.count c.requires in
     going_bad (bit c.args.taken.bits) c.args.from cs c.loop-i.hand.bits c.loop-i.i _ c.loop-i.invariant (omega arith)
-    (part_at bs c.args.from c.args.count c.loop-i.i c.loop-i-test.true) c.in-default.ensures
+    (part_at bs c.args.from c.args.count c.loop-i.i c.loop-i-test.true) c.in_default.ensures
 
 pub loop-i-preserved : goal.loop-i-preserved
 loop-i-preserved c =

@@ -16,20 +16,20 @@ pub loop-p-init : goal.loop-p-init
 unfolding first
 loop-p-init c = (refl, dealt_none c.args.bytes.now _ c.args.trick.bits refl c.requires.trick)
 
-pub overflow-add-start : goal.overflow-add-start
-overflow-add-start c = omega (arith, there c.args.bytes.now c.args.starts c.loop-p.p c.requires.starts c.loop-p-test.true c.requires.whole)
+pub overflow_add-start : goal.overflow_add-start
+overflow_add-start c = omega (arith, there c.args.bytes.now c.args.starts c.loop-p.p c.requires.starts c.loop-p-test.true c.requires.whole)
 
 pub gather-gathered-requires : goal.gather-gathered-requires
 gather-gathered-requires c = omega (arith, there c.args.bytes.now c.args.starts c.loop-p.p c.requires.starts c.loop-p-test.true c.requires.whole)
 
-pub returns-in-default : goal.returns-in-default
-returns-in-default c =
+pub returns-in_default : goal.returns-in_default
+returns-in_default c =
     let bs = c.args.bytes.now in
     let p = c.loop-p.p in
     let taken = c.loop-p.taken.bits in
-    let bad = cards_at bs p _ _ (c.requires.starts.at p (omega arith)) c.byte-at.ensures (λ i cs. first_bad (bit taken) i cs ≡ Some c.in-default.field-0) c.in-default.ensures in
-    first_some (hand_fault bs) 4 p c.in-default.field-0 c.loop-p-test.true c.loop-p.invariant.0 (fault_at bs _ taken p (Some c.in-default.field-0) c.loop-p.invariant.1 bad)
-    ∙ ap Some (sym (c.place.ensures ∙ ap place_in c.in-default.is))
+    let bad = cards_at bs p _ _ (c.requires.starts.at p (omega arith)) c.byte_at.ensures (λ i cs. first_bad (bit taken) i cs ≡ Some c.in_default.field-0) c.in_default.ensures in
+    first_some (hand_fault bs) 4 p c.in_default.field-0 c.loop-p-test.true c.loop-p.invariant.0 (fault_at bs _ taken p (Some c.in_default.field-0) c.loop-p.invariant.1 bad)
+    ∙ ap Some (sym (c.place.ensures ∙ ap place_in c.in_default.is))
 
 pub loop-p-preserved : goal.loop-p-preserved
 loop-p-preserved c =
@@ -38,7 +38,7 @@ loop-p-preserved c =
     let taken = c.loop-p.taken.bits in
     let hand = c.in-Good.hand.bits in
     let d = c.loop-p.invariant.1 in
-    let g = cards_at bs p _ _ (c.requires.starts.at p (omega arith)) c.byte-at.ensures (λ i cs. (first_bad (bit taken) i cs ≡ None) × Gathered cs hand) c.in-Good.ensures in (
+    let g = cards_at bs p _ _ (c.requires.starts.at p (omega arith)) c.byte_at.ensures (λ i cs. (first_bad (bit taken) i cs ≡ None) × Gathered cs hand) c.in-Good.ensures in (
       first_none (hand_fault bs) p c.loop-p.invariant.0 (fault_at bs _ taken p None d g.0),
       subst (λ (xs : List ℕ). Dealt bs (p + 1) xs c.union-taken.result.bits) (sym (map-set (λ h. h.bits) c.loop-p.hands p c.in-Good.hand))
           (dealt_more bs (bits_of c.loop-p.hands) taken hand _ p d c.loop-p-test.true c.requires.whole g.1 c.union-taken.ensures),

@@ -11,4 +11,4 @@ pub loop-p-preserved : goal.loop-p-preserved
 loop-p-preserved c =
     let bs = c.args.bytes.now in
     let p = c.loop-p.p in
-    c.larger-most.ensures ∙ ap₂ max c.loop-p.invariant (c.byte-at.ensures ∙ ap (byte bs) (c.requires.at p (omega arith))) ∙ sym (largest_more (number_byte bs) p)
+    c.larger-most.ensures ∙ ap₂ max c.loop-p.invariant (c.byte_at.ensures ∙ ap (byte bs) (c.requires.at p (omega arith))) ∙ sym (largest_more (number_byte bs) p)

@@ -21,17 +21,17 @@ pub loop-i-init : goal.loop-i-init
 unfolding first
 loop-i-init c = refl
 
-pub returns-then-is-against : goal.returns-then-is-against
-returns-then-is-against c =
+pub returns-then-is_against : goal.returns-then-is_against
+returns-then-is_against c =
     first_some _ c.args.played c.loop-i.i (3 + c.loop-i.i) c.loop-i-test.true c.loop-i.invariant
     (ap (λ (b : Bool). fault b (3 + c.loop-i.i))
-    (against_at c.args.trick c.args.hands c.args.leader.seat c.loop-i.i c.ahead-player.result.seat _ _ _ (omega arith) (omega arith) (omega arith) c.ahead-player.ensures ∙ sym c.if-is-against.ensures))
+    (against_at c.args.trick c.args.hands c.args.leader.seat c.loop-i.i c.ahead-player.result.seat _ _ _ (omega arith) (omega arith) (omega arith) c.ahead-player.ensures ∙ sym c.if-is_against.ensures))
 
 pub loop-i-preserved : goal.loop-i-preserved
 loop-i-preserved c =
     first_none _ c.loop-i.i c.loop-i.invariant
     (ap (λ (b : Bool). fault b (3 + c.loop-i.i))
-    (against_at c.args.trick c.args.hands c.args.leader.seat c.loop-i.i c.ahead-player.result.seat _ _ _ (omega arith) (omega arith) (omega arith) c.ahead-player.ensures ∙ sym c.if-is-against.ensures))
+    (against_at c.args.trick c.args.hands c.args.leader.seat c.loop-i.i c.ahead-player.result.seat _ _ _ (omega arith) (omega arith) (omega arith) c.ahead-player.ensures ∙ sym c.if-is_against.ensures))
 
 pub returns : goal.returns
 returns c = let all : c.loop-i.i ≡ c.args.played = omega arith in (ap (first _) (sym all) ∙ c.loop-i.invariant, tt)

@@ -13,17 +13,17 @@ pub loop-p-init : goal.loop-p-init
 unfolding first
 loop-p-init c = refl
 
-pub returns-then-is-uneven : goal.returns-then-is-uneven
-returns-then-is-uneven c =
+pub returns-then-is_uneven : goal.returns-then-is_uneven
+returns-then-is_uneven c =
     let bs = c.args.bytes.now in
     let p = c.loop-p.p in
     first_some _ 4 p (get_or c.args.starts p 0) c.loop-p-test.true c.loop-p.invariant
-    (share_is bs p _ _ _ true c.share-in.ensures c.share-in-each.ensures c.requires.leader c.if-is-uneven.ensures ∙ ap Some (sym (c.requires.starts.at p (omega arith))))
+    (share_is bs p _ _ _ true c.share_in.ensures c.share_in-each.ensures c.requires.leader c.if-is_uneven.ensures ∙ ap Some (sym (c.requires.starts.at p (omega arith))))
 
 pub loop-p-preserved : goal.loop-p-preserved
 loop-p-preserved c =
     first_none _ c.loop-p.p c.loop-p.invariant
-    (share_is c.args.bytes.now c.loop-p.p _ _ _ false c.share-in.ensures c.share-in-each.ensures c.requires.leader c.if-is-uneven.ensures)
+    (share_is c.args.bytes.now c.loop-p.p _ _ _ false c.share_in.ensures c.share_in-each.ensures c.requires.leader c.if-is_uneven.ensures)
 
 pub returns : goal.returns
 returns c = let four : c.loop-p.p ≡ 4 = omega arith in (ap (first _) (sym four) ∙ c.loop-p.invariant, tt)

@@ -13,7 +13,7 @@ known_more bs xs p place l e known =
 
 pub loop-p-init : goal.loop-p-init
 unfolding start_of
-loop-p-init c = (ap (λ (x : ℕ). 3 + x) c.byte-at.ensures, (λ j l. absurd (omega arith)), omega arith, refl)
+loop-p-init c = (ap (λ (x : ℕ). 3 + x) c.byte_at.ensures, (λ j l. absurd (omega arith)), omega arith, refl)
 
 pub loop-p-preserved : goal.loop-p-preserved
 loop-p-preserved c =
@@ -22,7 +22,7 @@ loop-p-preserved c =
     let place = c.loop-p.place in
     let xs = c.loop-p.starts in
     let here : place ≡ start_of bs p = c.loop-p.invariant.0 in
-    let read : c.byte-at-in-loop-p.result ≡ byte bs (start_of bs p) = c.byte-at-in-loop-p.ensures ∙ ap (byte bs) here in
+    let read : c.byte_at-in-loop-p.result ≡ byte bs (start_of bs p) = c.byte_at-in-loop-p.ensures ∙ ap (byte bs) here in
     let next = start_more bs p in (
       omega arith,
       known_more bs xs p place (omega arith) here c.loop-p.invariant.1,

@@ -9,9 +9,9 @@ pub loop-number-init : goal.loop-number-init
 unfolding has_suit
 loop-number-init c = refl
 
-pub returns-then-holds-of : goal.returns-then-holds-of
-returns-then-holds-of c =
-    sym (some_at (bit c.args.self.bits) (suit_number c.args.suit) deck c.loop-number.number c.loop-number-test.true (sym c.if-holds-of.ensures))
+pub returns-then-holds_of : goal.returns-then-holds_of
+returns-then-holds_of c =
+    sym (some_at (bit c.args.self.bits) (suit_number c.args.suit) deck c.loop-number.number c.loop-number-test.true (sym c.if-holds_of.ensures))
 
 pub loop-number-preserved : goal.loop-number-preserved
-loop-number-preserved c = none_more (bit c.args.self.bits) (suit_number c.args.suit) c.loop-number.number c.loop-number.invariant (sym c.if-holds-of.ensures)
+loop-number-preserved c = none_more (bit c.args.self.bits) (suit_number c.args.suit) c.loop-number.number c.loop-number.invariant (sym c.if-holds_of.ensures)
