@@ -6,6 +6,6 @@ use Rattle.equals.proofs.in_play.in_play.Goals as goal
 
 pub returns : goal.returns
 returns c x =
-    let others = c.cards-of-others-others.ensures x ∙ ap (λ (p : ℕ). of_others (held c.args.board.now.hands) p x) c.turn.ensures in
-    c.held-or-lying.ensures x
-    ∙ ap₂ (λ (a b : Bool). a || b) (ap₂ (λ (a b : Bool). a || b) (ap (λ (h : ℕ). bit h x) c.hand-to-play.ensures) others) (c.on-table.ensures x)
+    let others = c.cards_of_others-others.ensures x ∙ ap (λ (p : ℕ). of_others (held c.args.board.now.hands) p x) c.turn.ensures in
+    c.held_or_lying.ensures x
+    ∙ ap₂ (λ (a b : Bool). a || b) (ap₂ (λ (a b : Bool). a || b) (ap (λ (h : ℕ). bit h x) c.hand_to_play.ensures) others) (c.on_table.ensures x)

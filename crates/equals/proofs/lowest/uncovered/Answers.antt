@@ -13,11 +13,11 @@ loop-card-smaller c =
 
 pub loop-card-preserved : goal.loop-card-preserved
 loop-card-preserved c =
-    sifted_more c.args.cards.bits c.loop-card.left.bits c.loop-card.found.bits c.without-left.result.bits c.without-covered-found.result.bits c.in-Some.card.number
-    (covered (bit c.args.own.bits) (bit c.args.in_play.bits)) c.loop-card.invariant c.without-left.ensures c.without-covered-found.ensures
+    sifted_more c.args.cards.bits c.loop-card.left.bits c.loop-card.found.bits c.without-left.result.bits c.without_covered-found.result.bits c.in-Some.card.number
+    (covered (bit c.args.own.bits) (bit c.args.in_play.bits)) c.loop-card.invariant c.without-left.ensures c.without_covered-found.ensures
 
 pub returns : goal.returns
 returns c =
     let left = c.loop-card.left in
     sifted_all c.args.cards.bits left.bits c.loop-card.found.bits (covered (bit c.args.own.bits) (bit c.args.in_play.bits)) c.loop-card.invariant left.low
-    (no_top (bit left.bits) deck c.in-default.ensures)
+    (no_top (bit left.bits) deck c.in_default.ensures)

@@ -10,39 +10,39 @@ use Rattle.referee.specs.Parts.{told_log}
 use Rattle.referee.proofs.CardsLaws.{few_cards}
 use Rattle.referee.proofs.LogLaws.{going_none, place_left, going_more, going_bad, going_all}
 use Rattle.referee.proofs.row.log_row.Goals as goal
-use Rattle.referee.proofs.row.log_row.Goals.{In-ok-next, at·index-plays-place, at·offset-plays-place, at·loop-place-again}
+use Rattle.referee.proofs.row.log_row.Goals.{In_ok-next}
 
 pub loop-place-init : goal.loop-place-init
 loop-place-init c = going_none (seen c.args.board.now) c.args.row.now _ refl
 
-pub returns-in-err-next : goal.returns-in-err-next
-returns-in-err-next c =
-    let e = err_from_is_err_and c.from-residual.result c.from-residual.ensures.1 in
-    let bad = c.in-err-next.ensures in
+pub returns-in_err-next : goal.returns-in_err-next
+returns-in_err-next c =
+    let e = err_from_is_err_and c.from_residual.result c.from_residual.ensures.1 in
+    let bad = c.in_err-next.ensures in
     record {
       answer = ap (told_log (length c.args.row.now)) e.1
           ∙ ap (λ (x : Refusal). refuses (number_of x) (place_of x)) e.2
           ∙ ap₂ refuses bad.number bad.at
           ∙ going_bad _ _ c.loop-place.place _ _ c.loop-place.invariant (get_or c.args.row.now c.loop-place.place 0) c.loop-place-test.true refl bad.illegal;
-      few = IfOk-from_err c.from-residual.result _ c.from-residual.ensures.0;
+      few = IfOk-from_err c.from_residual.result _ c.from_residual.ensures.0;
     }
 
 -- there is a place for the play of a card that was played
-room : (c : In-ok-next) → c.loop-place.place < 32
+room : (c : In_ok-next) → c.loop-place.place < 32
 room c =
     let b = c.args.board.now in
-    place_left _ _ c.loop-place.place _ _ c.loop-place.invariant _ (few_cards (seen b) (tricks_left b) (in_order b)) c.in-ok-next.ensures.legal
+    place_left _ _ c.loop-place.place _ _ c.loop-place.invariant _ (few_cards (seen b) (tricks_left b) (in_order b)) c.in_ok-next.ensures.legal
 
 pub bounds-plays-place : goal.bounds-plays-place
-bounds-plays-place c = room (at·index-plays-place c).In-ok-next
+bounds-plays-place c = room (goal.at.bounds-plays-place c).In_ok-next
 
-pub offset-bounds-plays-place : goal.offset-bounds-plays-place
-offset-bounds-plays-place c = omega (arith, room (at·offset-plays-place c).In-ok-next)
+pub offset_bounds-plays-place : goal.offset_bounds-plays-place
+offset_bounds-plays-place c = omega (arith, room (goal.at.offset_bounds-plays-place c).In_ok-next)
 
 pub loop-place-preserved : goal.loop-place-preserved
 loop-place-preserved c =
-    let next = c.in-ok-next.ensures in
-    going_more _ _ c.loop-place.place _ _ c.loop-place.invariant (get_or c.args.row.now c.loop-place.place 0) _ _ c.loop-place-test.true (room (at·loop-place-again c).In-ok-next) refl next.legal next.table next.note
+    let next = c.in_ok-next.ensures in
+    going_more _ _ c.loop-place.place _ _ c.loop-place.invariant (get_or c.args.row.now c.loop-place.place 0) _ _ c.loop-place-test.true (room (goal.at.loop-place-preserved c).In_ok-next) refl next.legal next.table next.note
 
 pub returns : goal.returns
 returns c =

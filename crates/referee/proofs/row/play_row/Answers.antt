@@ -31,7 +31,7 @@ returns c =
     let b = c.args.board.now in
     let cs = c.args.row.now in
     let lent = c.args.plays.now in
-    let value = answered (seen b) cs lent _ c.log-within.result c.hand-over.result c.log-within.ensures.answer c.hand-over.ensures in
+    let value = answered (seen b) cs lent _ c.log_within.result c.hand_over.result c.log_within.ensures.answer c.hand_over.ensures in
     record {
       value = value;
       right = subst (λ (o : Outcome). Right (seen b) (length lent) cs o) (sym value.answer) (refereed_right (seen b) (tricks_left b) (length lent) cs (in_order b));

@@ -7,6 +7,6 @@ use Rattle.tricks.proofs.legal.may_play.Goals as goal
 
 pub returns : goal.returns
 returns c =
-    c.is-playable.ensures
-    ∙ may_is (seen c.args.board.now) (bit c.hand-to-play.result.bits) (suit_told c.led.result) c.args.card.number (ap bit c.hand-to-play.ensures) c.led.ensures
+    c.is_playable.ensures
+    ∙ may_is (seen c.args.board.now) (bit c.hand_to_play.result.bits) (suit_told c.led.result) c.args.card.number (ap bit c.hand_to_play.ensures) c.led.ensures
     (λ l. absurd (omega (arith, c.args.card.low)))

@@ -9,7 +9,7 @@ use Rattle.tricks.proofs.legal.playable.Goals as goal
 
 pub returns : goal.returns
 returns c x =
-    let hand = c.hand-to-play.result in
-    c.playable-of.ensures x
-    ∙ may_is (seen c.args.board.now) (bit hand.bits) (suit_told c.led.result) x (ap bit c.hand-to-play.ensures) c.led.ensures
+    let hand = c.hand_to_play.result in
+    c.playable_of.ensures x
+    ∙ may_is (seen c.args.board.now) (bit hand.bits) (suit_told c.led.result) x (ap bit c.hand_to_play.ensures) c.led.ensures
     (λ l. bit_past hand.bits x deck hand.low l)

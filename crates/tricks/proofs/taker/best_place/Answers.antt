@@ -6,7 +6,7 @@ use Rattle.cards.specs.Numbers.{trump_number}
 use Rattle.tricks.specs.Rules.{beats, best}
 use Rattle.tricks.proofs.TrickLaws.{best_more, best_all}
 use Rattle.tricks.proofs.taker.best_place.Goals as goal
-use Rattle.tricks.proofs.taker.best_place.Goals.{then-is-better, else-is-better}
+use Rattle.tricks.proofs.taker.best_place.Goals.{then-is_better, else-is_better}
 
 pub loop-place-preserved : goal.loop-place-preserved
 loop-place-preserved c =
@@ -20,13 +20,13 @@ loop-place-preserved c =
     let low = c.loop-place.invariant.1 in
     let here : i < length xs = omega arith in
     let F : Bool → ℕ = λ (t : Bool). pick t (best T s (get_or xs i 0) i (i + 1) (drop (i + 1) xs)) (best T s (get_or xs b 0) b (i + 1) (drop (i + 1) xs)) in
-    let test : beats T s (get_or xs b 0) (get_or xs i 0) ≡ c.is-better.result =
+    let test : beats T s (get_or xs b 0) (get_or xs i 0) ≡ c.is_better.result =
     ap₂ (λ (x y : ℕ). beats T s x y) (get_or-map (λ k. k.number) cards b c.index-cards-best.result 0 (omega arith)) (get_or-map (λ k. k.number) cards i c.index-cards-place.result 0 (omega arith))
-    ∙ sym (c.is-better.ensures s) in
+    ∙ sym (c.is_better.ensures s) in
     let known = sym c.loop-place.invariant.0 ∙ best_more T s (get_or xs b 0) b i xs here ∙ ap F test in
-    elim c.if-is-better.branch [
-      | then-is-better w ↦ (rw w.best-is (sym (known ∙ ap F w.if-is-better.true)), omega (arith, w.best-is))
-      | else-is-better w ↦ (rw w.best-is (sym (known ∙ ap F w.if-is-better.false)), omega (arith, w.best-is))
+    elim c.if-is_better.branch [
+      | then-is_better w ↦ (rw w.best-is (sym (known ∙ ap F w.if-is_better.true)), omega (arith, w.best-is))
+      | else-is_better w ↦ (rw w.best-is (sym (known ∙ ap F w.if-is_better.false)), omega (arith, w.best-is))
     ]
 
 pub returns : goal.returns

@@ -13,7 +13,7 @@ returns c =
     let t = seen b in
     let x = c.args.card.number in
     let three : length b.trick ≡ 3 = search rules in
-    let last = sym c.if-not-ends-trick.ensures in
+    let last = sym c.if-not-ends_trick.ensures in
     let all : b.played ≡ 3 = sym (cards_on b.trick b.played three b.short) ∙ eqb-true _ _ last in
-    ap Some (c.trick-taker.ensures ∙ taker_is t b.trick b.played x _ _ _ three all)
+    ap Some (c.trick_taker.ensures ∙ taker_is t b.trick b.played x _ _ _ three all)
     ∙ sym (ap (λ (e : Bool). pick e (Some (winner t (t.trick ++ (x ∷ [])))) None) last)
