@@ -1,6 +1,6 @@
 -- Two cards next to each other in one hand are as good as each other: a table in which they are exchanged is played alike. Assumes nothing.
 use Rattle.std.proofs.Common.{◌≡◌, ℕ, zero, suc, ◌+◌, ◌%◌, ◌<◌, Bool, true, false, not, ◌&&◌, ◌||◌, eqb, ltb, List, [], ◌∷◌, ◌++◌, map, length, get_or, Decides, sym, refl, ap, ◌∙◌, subst, ap₂, inl, inr, arith}
-use mathlib.Core.Bool.{or_true}
+use mathlib.Core.Bool.{or-true}
 use Rattle.std.proofs.lemmas.Bool.{both_ways, eqb-true, eqb-false, eq-eqb, ltb-true, lt-ltb, not-true, not_from_false, cases_lt, cases_Bool, and_from, and_parts, or_cases, or_left, or_right}
 use Rattle.std.proofs.lemmas.Bool.Decides.{same_from_decides, Decides-below_and}
 use Rattle.std.proofs.lemmas.List.{length-map, length_push, map_push}
@@ -139,13 +139,13 @@ swap_alike c d p lt small suits = record {
 -- what a player holds, and what lies on the table, is in play
 pub held_in_play : (t : Table) (q x : ℕ) → q < 4 → t.hand q x ≡ true → in_play t x ≡ true
 held_in_play t zero x l e = rw e
-held_in_play t (suc zero) x l e = rw (e, or_true)
-held_in_play t (suc (suc zero)) x l e = rw e (or_true _)
-held_in_play t (suc (suc (suc zero))) x l e = rw (e, or_true) (or_true _)
+held_in_play t (suc zero) x l e = rw (e, or-true)
+held_in_play t (suc (suc zero)) x l e = rw e (or-true _)
+held_in_play t (suc (suc (suc zero))) x l e = rw (e, or-true) (or-true _)
 held_in_play t (suc (suc (suc (suc q)))) x l e = absurd (omega arith)
 
 lying_in_play : (t : Table) (i : ℕ) → i < length t.trick → in_play t (get_or t.trick i 0) ≡ true
-lying_in_play t i l = rw (on_at t.trick i l, or_true, or_true)
+lying_in_play t i l = rw (on_at t.trick i l, or-true, or-true)
 
 -- one card does not lie between, or is not in play
 abbrev apart : Table → ℕ → ℕ → ℕ → Bool

@@ -14,8 +14,8 @@ returns c =
     let t = seen b in
     let n = tricks_left b in
     let sound = (in_order b).sound in
-    let is = c.worth-at-root.ensures.worth in
-    let w : Worth t c.worth-at-root.result = subst (Worth t) (sym is) (value_is_worth t n sound) in
+    let is = c.worth_at_root.ensures.worth in
+    let w : Worth t c.worth_at_root.result = subst (Worth t) (sym is) (value_is_worth t n sound) in
     record {
       lent = search rules;
       takes = w.0;
@@ -23,5 +23,5 @@ returns c =
       low = subst (λ (v : ℕ). v ≤ n) (sym is) (worth_low t n sound);
       only = λ x h. worth_is t n x sound h ∙ sym is;
       value = is;
-      kept = c.worth-at-root.ensures.kept;
+      kept = c.worth_at_root.ensures.kept;
     }

@@ -6,4 +6,4 @@ pub returns : goal.returns
 returns c x =
     let hands = c.args.board.now.hands in
     let four : length hands ≡ 4 = search rules in
-    c.all-of.ensures x ∙ held_is hands _ _ _ _ four x
+    c.all_of.ensures x ∙ held_is hands _ _ _ _ four x

@@ -5,4 +5,4 @@ use Rattle.worth.proofs.EqualLaws.{serving_enough}
 use Rattle.worth.proofs.search.candidates.Goals as goal
 
 pub returns : goal.returns
-returns c = let b = c.args.board.now in serving_enough (seen b) (tricks_left b) (bit c.lowest-equals.result.bits) (in_order b).sound c.lowest-equals.ensures.serves
+returns c = let b = c.args.board.now in serving_enough (seen b) (tricks_left b) (bit c.lowest_equals.result.bits) (in_order b).sound c.lowest_equals.ensures.serves

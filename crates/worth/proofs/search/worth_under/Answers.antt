@@ -4,7 +4,7 @@ use Rattle.worth.proofs.search.worth_under.Goals as goal
 
 pub search-requires : goal.search-requires
 search-requires c = record {
-  left = c.tricks-left-left.ensures;
+  left = c.tricks_left-left.ensures;
   order = omega arith;
   most = omega arith;
   under = c.requires.under;
@@ -14,4 +14,4 @@ search-requires c = record {
 }
 
 pub returns : goal.returns
-returns c = record { worth = c.search.ensures.worth ∙ whole_worth c.args.board.now _ c.tricks-left-left.ensures; kept = c.search.ensures.kept }
+returns c = record { worth = c.search.ensures.worth ∙ whole_worth c.args.board.now _ c.tricks_left-left.ensures; kept = c.search.ensures.kept }
