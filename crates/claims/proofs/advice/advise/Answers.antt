@@ -10,7 +10,7 @@ returns c =
     let b = c.args.board.now in
     record {
       lent = search rules;
-      card = c.advice-under.ensures.card;
-      named = named (seen b) (tricks_left b) (in_order b).sound (card_told c.advice-under.result) c.advice-under.ensures.card;
-      kept = c.advice-under.ensures.kept;
+      card = c.advice_under.ensures.card;
+      named = named (seen b) (tricks_left b) (in_order b).sound (card_told c.advice_under.result) c.advice_under.ensures.card;
+      kept = c.advice_under.ensures.kept;
     }

@@ -9,28 +9,28 @@ use Rattle.claims.proofs.bytes.judge_bytes.Goals as goal
 before_part : (bs : List ℕ) (k : ℕ) → k ≡ length bs - 2 → take (k - 0) bs ≡ before_claim bs
 before_part bs k is = ap (λ (n : ℕ). take n bs) (let e : k - 0 ≡ length bs - 2 = omega arith in e)
 
-pub returns-in-err-board : goal.returns-in-err-board
-returns-in-err-board c =
-    let (e, is, same) = err_from_is_err_and c.from-residual.result c.from-residual.ensures.1 in
+pub returns-in_err-board : goal.returns-in_err-board
+returns-in_err-board c =
+    let (e, is, same) = err_from_is_err_and c.from_residual.result c.from_residual.ensures.1 in
     let bs = c.args.bytes.now in
     let keys = c.args.positions.now in
     let worths = c.args.worths.now in
     let room = judging_room c.args.cards keys worths in
-    let refused = subst (λ (xs : List ℕ). TableTold xs room (Err c.in-err-board.field-0.0)) (before_part bs c.ending-of-end.result.before c.ending-of-end.ensures.before) c.in-err-board.ensures in
+    let refused = subst (λ (xs : List ℕ). TableTold xs room (Err c.in_err-board.field-0.0)) (before_part bs c.ending_of-end.result.before c.ending_of-end.ensures.before) c.in_err-board.ensures in
     subst (InputTold bs room keys worths keys worths) (sym (is ∙ ap Err same)) (before refused, refl, refl)
 
-pub returns-in-err-claim : goal.returns-in-err-claim
-returns-in-err-claim c =
-    let (e, is, same) = err_from_is_err_and c.from-residual-in-err-claim.result c.from-residual-in-err-claim.ensures.1 in
+pub returns-in_err-claim : goal.returns-in_err-claim
+returns-in_err-claim c =
+    let (e, is, same) = err_from_is_err_and c.from_residual-in_err-claim.result c.from_residual-in_err-claim.ensures.1 in
     let bs = c.args.bytes.now in
-    let b = c.in-ok-board.board in
+    let b = c.in_ok-board.board in
     let keys = c.args.positions.now in
     let worths = c.args.worths.now in
     let room = judging_room c.args.cards keys worths in
-    let table = subst (λ (xs : List ℕ). TableTold xs room (Ok b)) (before_part bs c.ending-of-end.result.before c.ending-of-end.ensures.before) c.in-ok-board.ensures in
-    let no = c.in-err-claim.ensures in
+    let table = subst (λ (xs : List ℕ). TableTold xs room (Ok b)) (before_part bs c.ending_of-end.result.before c.ending_of-end.ensures.before) c.in_ok-board.ensures in
+    let no = c.in_err-claim.ensures in
     subst (InputTold bs room keys worths keys worths) (sym (is ∙ ap Err same)) (
-      claim_refused bs room b table.0 table.1 c.ending-of-end.result.side c.ending-of-end.result.tricks c.tricks_left.result c.ending-of-end.ensures.side c.ending-of-end.ensures.tricks c.tricks_left.ensures c.in-err-claim.field-0.0 no,
+      claim_refused bs room b table.0 table.1 c.ending_of-end.result.side c.ending_of-end.result.tricks c.tricks_left.result c.ending_of-end.ensures.side c.ending_of-end.ensures.tricks c.tricks_left.ensures c.in_err-claim.field-0.0 no,
       refl,
       refl,
     )
@@ -38,9 +38,9 @@ returns-in-err-claim c =
 pub returns : goal.returns
 returns c =
     let bs = c.args.bytes.now in
-    let b = c.in-ok-board.board in
+    let b = c.in_ok-board.board in
     let room = judging_room c.args.cards c.args.positions.now c.args.worths.now in
-    let (stands, is) = subst (λ (xs : List ℕ). TableTold xs room (Ok b)) (before_part bs c.ending-of-end.result.before c.ending-of-end.ensures.before) c.in-ok-board.ensures in
-    let made = subst (λ (n : ℕ). Claimed c.ending-of-end.result.side c.ending-of-end.result.tricks n (Ok c.in-ok-claim.claim)) c.tricks_left.ensures c.in-ok-claim.ensures in
-    input_told c.ending-of-end.result.side c.ending-of-end.result.tricks b c.in-ok-claim.claim made c.args.positions.now c.args.worths.now c.judge.new.positions c.judge.new.worths bs room
-    c.ending-of-end.ensures.side c.ending-of-end.ensures.tricks refl refl stands is c.judge.result c.judge.ensures
+    let (stands, is) = subst (λ (xs : List ℕ). TableTold xs room (Ok b)) (before_part bs c.ending_of-end.result.before c.ending_of-end.ensures.before) c.in_ok-board.ensures in
+    let made = subst (λ (n : ℕ). Claimed c.ending_of-end.result.side c.ending_of-end.result.tricks n (Ok c.in_ok-claim.claim)) c.tricks_left.ensures c.in_ok-claim.ensures in
+    input_told c.ending_of-end.result.side c.ending_of-end.result.tricks b c.in_ok-claim.claim made c.args.positions.now c.args.worths.now c.judge.new.positions c.judge.new.worths bs room
+    c.ending_of-end.ensures.side c.ending_of-end.ensures.tricks refl refl stands is c.judge.result c.judge.ensures

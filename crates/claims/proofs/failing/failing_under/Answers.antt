@@ -5,24 +5,24 @@ use Rattle.claims.specs.Failing.{fails}
 use Rattle.claims.specs.Tried.{breaks}
 use Rattle.claims.proofs.TriedLaws.{fails_tried, passed_none, passed_more, passed_here}
 use Rattle.claims.proofs.failing.failing_under.Goals as goal
-use Rattle.claims.proofs.failing.failing_under.Goals.{After-is-broken, at·returns-then-is-broken, at·loop-number-again}
+use Rattle.claims.proofs.failing.failing_under.Goals.{After-is_broken}
 
 -- what is told of the card that was tried
-tells_fails : (c : After-is-broken) → fails (claims_side c.args.claim) c.args.left (claims_tricks c.args.claim) (seen c.args.board.now) c.nth-card-card.result.number ≡ c.is-broken.result
+tells_fails : (c : After-is_broken) → fails (claims_side c.args.claim) c.args.left (claims_tricks c.args.claim) (seen c.args.board.now) c.nth_card-card.result.number ≡ c.is_broken.result
 tells_fails c =
     let side = claims_side c.args.claim in
     let k = claims_tricks c.args.claim in
-    fails_tried side c.args.left k (seen c.args.board.now) c.nth-card-card.result.number
-    ∙ sym (c.is-broken.ensures ∙ ap (breaks side c.args.left k) c.worth-by-by-card.ensures.worth)
+    fails_tried side c.args.left k (seen c.args.board.now) c.nth_card-card.result.number
+    ∙ sym (c.is_broken.ensures ∙ ap (breaks side c.args.left k) c.worth_by-by_card.ensures.worth)
 
 pub loop-number-init : goal.loop-number-init
 loop-number-init c = passed_none _ _ _ _ c.requires.kept
 
-pub returns-then-is-broken : goal.returns-then-is-broken
-returns-then-is-broken c = record {
-  card = passed_here _ _ _ _ c.nth-card-card.ensures _ _ c.loop-number.invariant c.nth-card-card.result.low (tells_fails (at·returns-then-is-broken c).After-is-broken ∙ c.if-is-broken.true);
-  kept = c.worth-by-by-card.ensures.kept;
+pub returns-then-is_broken : goal.returns-then-is_broken
+returns-then-is_broken c = record {
+  card = passed_here _ _ _ _ c.nth_card-card.ensures _ _ c.loop-number.invariant c.nth_card-card.result.low (tells_fails (goal.at.returns-then-is_broken c).After-is_broken ∙ c.if-is_broken.true);
+  kept = c.worth_by-by_card.ensures.kept;
 }
 
 pub loop-number-preserved : goal.loop-number-preserved
-loop-number-preserved c = passed_more _ _ _ _ c.nth-card-card.ensures _ _ c.loop-number.invariant _ _ (tells_fails (at·loop-number-again c).After-is-broken ∙ c.if-is-broken.false) c.worth-by-by-card.ensures.kept
+loop-number-preserved c = passed_more _ _ _ _ c.nth_card-card.ensures _ _ c.loop-number.invariant _ _ (tells_fails (goal.at.loop-number-preserved c).After-is_broken ∙ c.if-is_broken.false) c.worth_by-by_card.ensures.kept

@@ -13,8 +13,8 @@ returns c =
     let b = c.args.board.now in
     let side = claims_side c.args.claim in
     let k = claims_tricks c.args.claim in
-    let j = judgement_told c.judge-at-root.result in
-    let is = c.judge-at-root.ensures.judged in
+    let j = judgement_told c.judge_at_root.result in
+    let is = c.judge_at_root.ensures.judged in
     let sound = (in_order b).sound in (
       record {
         claimed = search rules;
@@ -24,7 +24,7 @@ returns c =
         refused_if = judged_cannot side (tricks_left b) k (seen b) j is sound;
         worth = judged_worth side (tricks_left b) k (seen b) j is sound;
         shows = subst (Justified side (tricks_left b) k (seen b)) (sym is) (judging_shows (seen b) (tricks_left b) sound side k);
-        kept = c.judge-at-root.ensures.kept;
+        kept = c.judge_at_root.ensures.kept;
       },
-      c.judge-at-root.ensures.counted,
+      c.judge_at_root.ensures.counted,
     )

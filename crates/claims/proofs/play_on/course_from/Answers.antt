@@ -9,47 +9,47 @@ use Rattle.claims.specs.Nexts.{NextTold, CourseTold}
 use Rattle.claims.specs.declared.play_on.Next.{Next}
 use Rattle.claims.proofs.NextLaws.{way_none, way_goes, way_over, way_refused, Goes_on}
 use Rattle.claims.proofs.play_on.course_from.Goals as goal
-use Rattle.claims.proofs.play_on.course_from.Goals.{In-Some, at·loop-next-less, at·loop-next-again}
+use Rattle.claims.proofs.play_on.course_from.Goals.{In-Some}
 
 pub loop-next-init : goal.loop-next-init
 loop-next-init c = way_none (is_ours c.args.side) (seen c.args.board.now) c.args.row.now _ _ _ refl c.requires.kept
 
 -- the card that was played next
-goes : (c : In-Some) → Goes_on (is_ours c.args.side) (seen c.args.board.now) c.args.row.now c.loop-next.cards c.loop-next.count c.loop-next.used (seen c.loop-next.table) c.loop-next.keys c.loop-next.worths c.loop-next.invariant c.next-play.new.keys c.next-play.new.worths c.in-Some.next
+goes : (c : In-Some) → Goes_on (is_ours c.args.side) (seen c.args.board.now) c.args.row.now c.loop-next.cards c.loop-next.count c.loop-next.used (seen c.loop-next.table) c.loop-next.keys c.loop-next.worths c.loop-next.invariant c.next_play.new.keys c.next_play.new.worths c.in-Some.next
 goes c =
     let b = c.args.board.now in
     let u = c.loop-next.table in
     let own = own_card (is_ours c.args.side) (seen u) in
-    let next = subst (λ (o : Option Next). NextTold own (seen u) c.args.row.now c.loop-next.used (Ok o)) c.in-Some.is c.in-ok-next.ensures.next in
-    way_goes _ _ _ _ _ _ _ _ _ c.loop-next.invariant (tricks_left u) (in_order u).sound _ _ c.in-ok-next.ensures.kept (few_cards (seen b) (tricks_left b) (in_order b)) own refl c.in-Some.next next
+    let next = subst (λ (o : Option Next). NextTold own (seen u) c.args.row.now c.loop-next.used (Ok o)) c.in-Some.is c.in_ok-next.ensures.next in
+    way_goes _ _ _ _ _ _ _ _ _ c.loop-next.invariant (tricks_left u) (in_order u).sound _ _ c.in_ok-next.ensures.kept (few_cards (seen b) (tricks_left b) (in_order b)) own refl c.in-Some.next next
 
 pub bounds-cards-count : goal.bounds-cards-count
 bounds-cards-count c = (goes c).place
 
-pub overflow-add-count : goal.overflow-add-count
-overflow-add-count c = omega (arith, (goes c).place)
+pub overflow_add-count : goal.overflow_add-count
+overflow_add-count c = omega (arith, (goes c).place)
 
 pub loop-next-smaller : goal.loop-next-smaller
-loop-next-smaller c = (goes (at·loop-next-less c).In-Some).falls
+loop-next-smaller c = (goes (goal.at.loop-next-smaller c).In-Some).falls
 
 pub loop-next-preserved : goal.loop-next-preserved
-loop-next-preserved c = (goes (at·loop-next-again c).In-Some).way
+loop-next-preserved c = (goes (goal.at.loop-next-preserved c).In-Some).way
 
-pub returns-in-err-next : goal.returns-in-err-next
-returns-in-err-next c =
-    let (e, is, same) = err_from_is_err_and c.from-residual.result c.from-residual.ensures.1 in
+pub returns-in_err-next : goal.returns-in_err-next
+returns-in_err-next c =
+    let (e, is, same) = err_from_is_err_and c.from_residual.result c.from_residual.ensures.1 in
     let u = c.loop-next.table in
-    let bad = way_refused _ _ _ _ _ _ _ _ _ c.loop-next.invariant (tricks_left u) (in_order u).sound _ refl c.in-err-next.field-0.0 c.in-err-next.ensures.next in
+    let bad = way_refused _ _ _ _ _ _ _ _ _ c.loop-next.invariant (tricks_left u) (in_order u).sound _ refl c.in_err-next.field-0.0 c.in_err-next.ensures.next in
     record {
       course = subst (CourseTold (is_ours c.args.side) (seen c.args.board.now) c.args.row.now) (sym (is ∙ ap Err same)) bad;
-      kept = c.in-err-next.ensures.kept;
+      kept = c.in_err-next.ensures.kept;
     }
 
 pub returns : goal.returns
 returns c =
     let u = c.loop-next.table in
     let own = own_card (is_ours c.args.side) (seen u) in
-    let next = subst (λ (o : Option Next). NextTold own (seen u) c.args.row.now c.loop-next.used (Ok o)) c.in-default.is c.in-ok-next.ensures.next in
+    let next = subst (λ (o : Option Next). NextTold own (seen u) c.args.row.now c.loop-next.used (Ok o)) c.in_default.is c.in_ok-next.ensures.next in
     let b = c.args.board.now in
     record {
       course = record {
@@ -58,5 +58,5 @@ returns c =
         few = omega (arith, c.loop-next.invariant.left);
         runs = way_over _ _ _ _ _ _ _ _ _ c.loop-next.invariant (tricks_left u) (in_order u).sound own refl next;
       };
-      kept = c.in-ok-next.ensures.kept;
+      kept = c.in_ok-next.ensures.kept;
     }

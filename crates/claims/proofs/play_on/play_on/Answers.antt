@@ -13,41 +13,41 @@ use Rattle.claims.specs.declared.play_on.Course.{Course}
 use Rattle.claims.proofs.LineToldLaws.{never_refused, line_told}
 use Rattle.claims.proofs.play_on.play_on.Goals as goal
 
-pub returns-then-not-has-places : goal.returns-then-not-has-places
-returns-then-not-has-places c = (no_places (ltb-true _ _ (not-false _ (sym c.if-not-has-places.ensures))) refl refl, refl)
+pub returns-then-not-has_places : goal.returns-then-not-has_places
+returns-then-not-has_places c = (no_places (ltb-true _ _ (not-false _ (sym c.if-not-has_places.ensures))) refl refl, refl)
 
-pub returns-then-not-is-usable : goal.returns-then-not-is-usable
-returns-then-not-is-usable c = (no_slots (ltb-false _ _ (not-true _ (sym c.if-not-has-places.ensures))) (sym c.if-not-is-usable.ensures) refl refl, refl)
+pub returns-then-not-is_usable : goal.returns-then-not-is_usable
+returns-then-not-is_usable c = (no_slots (ltb-false _ _ (not-true _ (sym c.if-not-has_places.ensures))) (sym c.if-not-is_usable.ensures) refl refl, refl)
 
-pub returns-in-err-course : goal.returns-in-err-course
-returns-in-err-course c =
-    let (e, is, same) = err_from_is_err_and c.from-residual.result c.from-residual.ensures.1 in
-    let roomy = ltb-false _ _ (not-true _ (sym c.if-not-has-places.ensures)) in
-    let bad = bad_card roomy (sym c.if-not-is-usable.ensures) c.in-err-course.ensures.course c.in-err-course.ensures.kept in
+pub returns-in_err-course : goal.returns-in_err-course
+returns-in_err-course c =
+    let (e, is, same) = err_from_is_err_and c.from_residual.result c.from_residual.ensures.1 in
+    let roomy = ltb-false _ _ (not-true _ (sym c.if-not-has_places.ensures)) in
+    let bad = bad_card roomy (sym c.if-not-is_usable.ensures) c.in_err-course.ensures.course c.in_err-course.ensures.kept in
     subst
-    (PlayOnTold (is_ours c.args.side) (seen c.args.board.now) c.args.row.now c.args.plays.now c.args.plays.now c.args.positions.now c.args.worths.now c.course-from.new.keys c.course-from.new.worths)
+    (PlayOnTold (is_ours c.args.side) (seen c.args.board.now) c.args.row.now c.args.plays.now c.args.plays.now c.args.positions.now c.args.worths.now c.course_from.new.keys c.course_from.new.worths)
     (sym (is ∙ ap Err same)) (bad, refl)
 
 -- the cards that the referee is given
 row_runs : (side : Bool) (t : Table) (cs : List ℕ) (x : Course) → CourseIs side t cs x → Runs side t cs (take (x.count - 0) x.cards)
 row_runs side t cs x is = let e : x.count ≡ x.count - 0 = omega arith in subst (λ (k : ℕ). Runs side t cs (take k x.cards)) e is.runs
 
-pub returns-in-err-table : goal.returns-in-err-table
-returns-in-err-table c =
+pub returns-in_err-table : goal.returns-in_err-table
+returns-in_err-table c =
     let b = c.args.board.now in
     let side = is_ours c.args.side in
-    let roomy = ltb-false _ _ (not-true _ (sym c.if-not-has-places.ensures)) in
-    let runs = row_runs side (seen b) c.args.row.now c.in-ok-course.course c.in-ok-course.ensures.course in
-    absurd (never_refused side (seen b) (tricks_left b) (in_order b).sound c.args.row.now _ runs c.args.plays.now c.play-row.new.plays roomy c.in-err-table.field-0.0 c.in-err-table.ensures.right)
+    let roomy = ltb-false _ _ (not-true _ (sym c.if-not-has_places.ensures)) in
+    let runs = row_runs side (seen b) c.args.row.now c.in_ok-course.course c.in_ok-course.ensures.course in
+    absurd (never_refused side (seen b) (tricks_left b) (in_order b).sound c.args.row.now _ runs c.args.plays.now c.play_row.new.plays roomy c.in_err-table.field-0.0 c.in_err-table.ensures.right)
 
 pub returns : goal.returns
 returns c =
     let b = c.args.board.now in
     let side = is_ours c.args.side in
-    let x = c.in-ok-course.course in
-    let is = c.in-ok-course.ensures.course in
-    let roomy : cards_left (seen b) ≤ length c.args.plays.now = ltb-false _ _ (not-true _ (sym c.if-not-has-places.ensures)) in
-    let told = c.in-ok-table.ensures in
+    let x = c.in_ok-course.course in
+    let is = c.in_ok-course.ensures.course in
+    let roomy : cards_left (seen b) ≤ length c.args.plays.now = ltb-false _ _ (not-true _ (sym c.if-not-has_places.ensures)) in
+    let told = c.in_ok-table.ensures in
     let many : length (take (x.count - 0) x.cards) ≡ x.count = length-take-le _ _ (omega (arith, is.fits, is.places)) ∙ (let e : x.count - 0 ≡ x.count = omega arith in e) in
-    line_told side (seen b) (tricks_left b) (in_order b).sound c.args.row.now _ (row_runs side (seen b) c.args.row.now x is) c.args.plays.now c.play-row.new.plays roomy
-    c.in-ok-table.table told.right _ _ _ _ (sym c.if-not-is-usable.ensures) c.in-ok-course.ensures.kept told.value x.count many is.few
+    line_told side (seen b) (tricks_left b) (in_order b).sound c.args.row.now _ (row_runs side (seen b) c.args.row.now x is) c.args.plays.now c.play_row.new.plays roomy
+    c.in_ok-table.table told.right _ _ _ _ (sym c.if-not-is_usable.ensures) c.in_ok-course.ensures.kept told.value x.count many is.few

@@ -5,8 +5,8 @@ use Rattle.claims.specs.Judging.{next_failing}
 use Rattle.claims.proofs.ReplyLaws.{rest_is}
 use Rattle.claims.proofs.replies.reply_to.Goals as goal
 
-pub next-failing-reply-requires : goal.next-failing-reply-requires
-next-failing-reply-requires c = record {
+pub next_failing-reply-requires : goal.next_failing-reply-requires
+next_failing-reply-requires c = record {
   under = after_under c.args.board.now c.args.card.number c.in-Some.played c.in-Some.ensures _ c.requires.under;
   some = c.requires.some;
   same = c.requires.same;
@@ -21,9 +21,9 @@ returns c =
       reply = (
         done.legal,
         ap (λ (o : Option ℕ). record { card = x; reply = o })
-            (c.next-failing-reply.ensures.card
+            (c.next_failing-reply.ensures.card
             ∙ rest_is next_failing c.args.board.now x c.in-Some.played done (claims_side c.args.claim) _ _ (claims_tricks c.args.claim) _ _ refl
-            c.claim-less-rest.ensures.side c.claim-less-rest.ensures.tricks c.taken.ensures),
+            c.claim_less-rest.ensures.side c.claim_less-rest.ensures.tricks c.taken.ensures),
       );
-      kept = c.next-failing-reply.ensures.kept;
+      kept = c.next_failing-reply.ensures.kept;
     }

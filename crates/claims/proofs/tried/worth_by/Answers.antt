@@ -6,18 +6,18 @@ use Rattle.worth.proofs.MoveLaws.{after_under, after_worth, after_within}
 use Rattle.claims.specs.Advice.{worth_by}
 use Rattle.claims.proofs.tried.worth_by.Goals as goal
 
-pub worth-under-rest-requires : goal.worth-under-rest-requires
-worth-under-rest-requires c = record {
+pub worth_under-rest-requires : goal.worth_under-rest-requires
+worth_under-rest-requires c = record {
   under = after_under c.args.board.now c.args.card.number c.in-Some.played c.in-Some.ensures _ c.requires.under;
   some = c.requires.some;
   same = c.requires.same;
   kept = c.requires.kept;
 }
 
-pub overflow-add-result : goal.overflow-add-result
-overflow-add-result c =
+pub overflow_add-result : goal.overflow_add-result
+overflow_add-result c =
     let b = c.args.board.now in
-    omega (arith, (in_order b).few, after_within b c.args.card.number c.in-Some.played c.in-Some.ensures (tricks_left b) _ _ refl c.gain.ensures c.worth-under-rest.ensures.worth)
+    omega (arith, (in_order b).few, after_within b c.args.card.number c.in-Some.played c.in-Some.ensures (tricks_left b) _ _ refl c.gain.ensures c.worth_under-rest.ensures.worth)
 
 pub returns : goal.returns
 returns c =
@@ -25,7 +25,7 @@ returns c =
     let x = c.args.card.number in
     let done = c.in-Some.ensures in
     record {
-      worth = ap Some (after_worth b x c.in-Some.played done _ _ c.gain.ensures c.worth-under-rest.ensures.worth)
+      worth = ap Some (after_worth b x c.in-Some.played done _ _ c.gain.ensures c.worth_under-rest.ensures.worth)
           ∙ sym (ap (λ (m : Bool). pick m (Some (worth_by (seen b) x)) None) done.legal);
-      kept = c.worth-under-rest.ensures.kept;
+      kept = c.worth_under-rest.ensures.kept;
     }

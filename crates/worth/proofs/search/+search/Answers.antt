@@ -10,65 +10,65 @@ use Rattle.worth.proofs.WindowLaws.{still_open}
 use Rattle.worth.proofs.MoveLaws.{after_under}
 use Rattle.worth.proofs.SearchLaws.{after_falls, after_left, after_window, after_found, exact_worth, SoFar, so_far_none, so_far_skips, so_far_takes, so_far_all, so_far_closed}
 use Rattle.worth.proofs.search.+search.Goals as goal
-use Rattle.worth.proofs.search.+search.Goals.{Left-suits, else-suits-test, then-suits-test+then-loop-rank-test+in-Some-played-of+then-is-closed-2}
+use Rattle.worth.proofs.search.+search.Goals.{Left-suits, else-suits-test, then-suits-test+then-loop-rank-test+in-Some-played_of+then-is_closed-2}
 
 pub suits-init : goal.suits-init
 suits-init t c =
-    let some = still_open c.args.low c.args.high c.is-closed.result c.requires.order c.is-closed.ensures c.if-is-closed.false in
+    let some = still_open c.args.low c.args.high c.is_closed.result c.requires.order c.is_closed.ensures c.if-is_closed.false in
     (so_far_none _ c.args.board _ _ _ _ _ _ _ c.requires.left c.candidates-cards.ensures refl some c.requires.most c.requires.kept, some)
 
 pub search-requires : goal.search-requires
 search-requires t c =
     let b = c.args.board in
-    let x = c.card-of.result.number in
-    let p = c.in-Some-played-of.played in
-    let done = c.in-Some-played-of.ensures.1 in
-    let left = after_left b x p done c.args.left _ c.requires.left c.left-with-rest.ensures in
-    let order = after_window b x p done c.args.left _ _ c.loop-rank.floor c.loop-rank.ceiling _ _ c.left-with-rest.ensures c.gain-gain.ensures c.loop-rank.invariant.1
-    c.loop-rank.invariant.0.most c.low_after.ensures c.high-after.ensures in
-    (after_falls b x p done t c.decreases, (left, (order, (omega (arith, c.high-after.ensures), (after_under b x p done _ c.requires.under, (omega arith, (omega arith, c.loop-rank.invariant.0.kept)))))))
+    let x = c.card_of.result.number in
+    let p = c.in-Some-played_of.played in
+    let done = c.in-Some-played_of.ensures.1 in
+    let left = after_left b x p done c.args.left _ c.requires.left c.left_with-rest.ensures in
+    let order = after_window b x p done c.args.left _ _ c.loop-rank.floor c.loop-rank.ceiling _ _ c.left_with-rest.ensures c.gain-gain.ensures c.loop-rank.invariant.1
+    c.loop-rank.invariant.0.most c.low_after.ensures c.high_after.ensures in
+    (after_falls b x p done t c.decreases, (left, (order, (omega (arith, c.high_after.ensures), (after_under b x p done _ c.requires.under, (omega arith, (omega arith, c.loop-rank.invariant.0.kept)))))))
 
-pub loop-rank-preserved-else-is-closed-2 : goal.loop-rank-preserved-else-is-closed-2
-loop-rank-preserved-else-is-closed-2 t c =
+pub loop-rank-preserved-else-is_closed-2 : goal.loop-rank-preserved-else-is_closed-2
+loop-rank-preserved-else-is_closed-2 t c =
     let b = c.args.board in
-    let x = c.card-of.result.number in
+    let x = c.card_of.result.number in
     let set = bit c.candidates-cards.result.bits in
-    let (in-set, done) = c.in-Some-played-of.ensures in
-    let s = so_far_takes _ (seen b) c.args.left c.args.low c.args.high set x _ c.loop-rank.floor c.loop-rank.ceiling _ _ _ c.is-ours-ours.result _ _ _ _ (omega (arith, c.card-of.ensures)) in-set c.is-ours-ours.ensures
-    (after_found b x c.in-Some-played-of.played done c.args.left _ _ c.loop-rank.floor c.loop-rank.ceiling _ _ c.left-with-rest.ensures c.gain-gain.ensures
-    c.loop-rank.invariant.1 c.loop-rank.invariant.0.most c.low_after.ensures c.high-after.ensures _ c.requires.left c.search.ensures.worth)
+    let (in-set, done) = c.in-Some-played_of.ensures in
+    let s = so_far_takes _ (seen b) c.args.left c.args.low c.args.high set x _ c.loop-rank.floor c.loop-rank.ceiling _ _ _ c.is_ours-ours.result _ _ _ _ (omega (arith, c.card_of.ensures)) in-set c.is_ours-ours.ensures
+    (after_found b x c.in-Some-played_of.played done c.args.left _ _ c.loop-rank.floor c.loop-rank.ceiling _ _ c.left_with-rest.ensures c.gain-gain.ensures
+    c.loop-rank.invariant.1 c.loop-rank.invariant.0.most c.low_after.ensures c.high_after.ensures _ c.requires.left c.search.ensures.worth)
     c.raised-floor.ensures c.lowered-ceiling.ensures c.search.ensures.kept c.loop-rank.invariant.0 in
-    (rw c.card-of.ensures at s, still_open c.raised-floor.result c.lowered-ceiling.result c.is-closed-in-Some-played-of.result s.order c.is-closed-in-Some-played-of.ensures c.if-is-closed-2.false)
+    (rw c.card_of.ensures at s, still_open c.raised-floor.result c.lowered-ceiling.result c.is_closed-in-Some-played_of.result s.order c.is_closed-in-Some-played_of.ensures c.if-is_closed-2.false)
 
 pub loop-rank-preserved : goal.loop-rank-preserved
 loop-rank-preserved t c =
-    let x = c.card-of.result.number in
+    let x = c.card_of.result.number in
     let s = so_far_skips _ (seen c.args.board) c.args.left c.args.low c.args.high (bit c.candidates-cards.result.bits) x _ c.loop-rank.floor c.loop-rank.ceiling _ _
-    (omega (arith, c.card-of.ensures)) c.in-default-played-of.ensures c.loop-rank.invariant.0 in
-    (rw c.card-of.ensures at s, c.loop-rank.invariant.1)
+    (omega (arith, c.card_of.ensures)) c.in_default-played_of.ensures c.loop-rank.invariant.0 in
+    (rw c.card_of.ensures at s, c.loop-rank.invariant.1)
 
 -- after the loops, however they were left
 settled : (t : ℕ) (c : goal.Left-suits t) →
-    (pick c.is-ours-ours.result c.suits-test.floor c.suits-test.ceiling ≡ clamp c.args.low c.args.high (worth_of (seen c.args.board)))
+    (pick c.is_ours-ours.result c.suits-test.floor c.suits-test.ceiling ≡ clamp c.args.low c.args.high (worth_of (seen c.args.board)))
     × True (seen c.args.root.now) c.suits-test.keys c.suits-test.worths
 settled t c =
     let b = c.args.board in
-    let ours = c.is-ours-ours.result in
+    let ours = c.is_ours-ours.result in
     elim c.suits-test.branch [
       | else-suits-test w ↦ (
         ap₂ (pick ours) w.floor-is w.ceiling-is
-            ∙ so_far_all _ (seen b) c.args.left c.args.low c.args.high (bit c.candidates-cards.result.bits) _ _ _ ours _ _ (omega arith) c.is-ours-ours.ensures c.suits.invariant.0,
+            ∙ so_far_all _ (seen b) c.args.left c.args.low c.args.high (bit c.candidates-cards.result.bits) _ _ _ ours _ _ (omega arith) c.is_ours-ours.ensures c.suits.invariant.0,
         rw (w.keys-is, w.worths-is) c.suits.invariant.0.kept,
       )
-      | then-suits-test+then-loop-rank-test+in-Some-played-of+then-is-closed-2 w ↦
-          let x = w.card-of.result.number in
-          let (in-set, done) = w.in-Some-played-of.ensures in
+      | then-suits-test+then-loop-rank-test+in-Some-played_of+then-is_closed-2 w ↦
+          let x = w.card_of.result.number in
+          let (in-set, done) = w.in-Some-played_of.ensures in
           let s = so_far_takes _ (seen b) c.args.left c.args.low c.args.high (bit c.candidates-cards.result.bits) x _ w.loop-rank.floor w.loop-rank.ceiling _ _ _ ours _ _ _ _
-          (omega (arith, w.card-of.ensures)) in-set c.is-ours-ours.ensures
-          (after_found b x w.in-Some-played-of.played done c.args.left _ _ w.loop-rank.floor w.loop-rank.ceiling _ _ w.left-with-rest.ensures w.gain-gain.ensures
-          w.loop-rank.invariant.1 w.loop-rank.invariant.0.most w.low_after.ensures w.high-after.ensures _ c.requires.left w.search.ensures.worth)
+          (omega (arith, w.card_of.ensures)) in-set c.is_ours-ours.ensures
+          (after_found b x w.in-Some-played_of.played done c.args.left _ _ w.loop-rank.floor w.loop-rank.ceiling _ _ w.left_with-rest.ensures w.gain-gain.ensures
+          w.loop-rank.invariant.1 w.loop-rank.invariant.0.most w.low_after.ensures w.high_after.ensures _ c.requires.left w.search.ensures.worth)
           w.raised-floor.ensures w.lowered-ceiling.ensures w.search.ensures.kept w.loop-rank.invariant.0 in
-          let met = eqb-true w.raised-floor.result w.lowered-ceiling.result (sym w.is-closed-in-Some-played-of.ensures ∙ w.if-is-closed-2.true) in (
+          let met = eqb-true w.raised-floor.result w.lowered-ceiling.result (sym w.is_closed-in-Some-played_of.ensures ∙ w.if-is_closed-2.true) in (
             ap₂ (pick ours) w.floor-is w.ceiling-is ∙ so_far_closed _ (seen b) c.args.left c.args.low c.args.high (bit c.candidates-cards.result.bits) x _ _ ours _ _ met s,
             rw (w.keys-is, w.worths-is) w.search.ensures.kept,
           )
@@ -78,17 +78,17 @@ pub store-requires : goal.store-requires
 store-requires t c =
     let (worth, kept) = settled t (goal.at.store-requires t c).Left-suits in
     record {
-      worth = exact_worth c.args.board c.args.low c.args.high c.args.left _ c.requires.left (c.reached-worth.ensures ∙ worth) (sym c.is-exact.ensures ∙ c.if-is-exact.true);
+      worth = exact_worth c.args.board c.args.low c.args.high c.args.left _ c.requires.left (c.reached-worth.ensures ∙ worth) (sym c.is_exact.ensures ∙ c.if-is_exact.true);
       under = c.requires.under;
       some = omega arith;
       same = omega arith;
       kept = kept;
     }
 
-pub returns-then-is-exact : goal.returns-then-is-exact
-returns-then-is-exact t c = record { worth = c.reached-worth.ensures ∙ (settled t (goal.at.returns-then-is-exact t c).Left-suits).0; kept = c.store.ensures }
+pub returns-then-is_exact : goal.returns-then-is_exact
+returns-then-is_exact t c = record { worth = c.reached-worth.ensures ∙ (settled t (goal.at.returns-then-is_exact t c).Left-suits).0; kept = c.store.ensures }
 
-pub returns-else-is-exact : goal.returns-else-is-exact
-returns-else-is-exact t c =
-    let (worth, kept) = settled t (goal.at.returns-else-is-exact t c).Left-suits in
+pub returns-else-is_exact : goal.returns-else-is_exact
+returns-else-is_exact t c =
+    let (worth, kept) = settled t (goal.at.returns-else-is_exact t c).Left-suits in
     record { worth = c.reached-worth.ensures ∙ worth; kept = kept }
