@@ -43,7 +43,7 @@ fn trick_of(board: &Board) -> &[Card]
 
 // The line of trump, of who leads and of the trick.
 fn show_first_line<W: fmt::Write>(board: &Board, f: &mut fmt::Formatter<W>) -> fmt::Result
-    ensures { WritesOnOk write_str_gives f.old result (first_line (seen board.now)) f.new }
+    ensures { WritesOnOk W.write_str_gives f.old result (first_line (seen board.now)) f.new }
 {
     let trump = Shown(board.trump);
     let leader = board.leader.seat;
@@ -53,7 +53,7 @@ fn show_first_line<W: fmt::Write>(board: &Board, f: &mut fmt::Formatter<W>) -> f
 
 // A line for each hand, a newline before it.
 fn show_hands<W: fmt::Write>(hands: [Hand; 4], f: &mut fmt::Formatter<W>) -> fmt::Result
-    ensures { WritesOnOk write_str_gives f.old result (hand_lines (held hands)) f.new }
+    ensures { WritesOnOk W.write_str_gives f.old result (hand_lines (held hands)) f.new }
 {
     let first = Shown(hand_of(hands, Player { seat: 0 }));
     let second = Shown(hand_of(hands, Player { seat: 1 }));

@@ -21,7 +21,7 @@ impl fmt::Display for Shown<Reply> {
 
 // A line for each reply, a newline before it.
 fn show_replies<W: fmt::Write>(replies: &[Reply], f: &mut fmt::Formatter<W>) -> fmt::Result
-    ensures { WritesOnOk write_str_gives f.old result (reply_lines (map reply_told replies.now)) f.new }
+    ensures { WritesOnOk W.write_str_gives f.old result (reply_lines (map reply_told replies.now)) f.new }
 {
     for reply in replies {
         write!(f, "\n{}", Shown(*reply))?;
@@ -35,7 +35,7 @@ fn show_answers<W: fmt::Write>(
     replies: &[Reply],
     f: &mut fmt::Formatter<W>,
 ) -> fmt::Result
-    ensures { WritesOnOk write_str_gives f.old result (answers_text worth (map reply_told replies.now)) f.new }
+    ensures { WritesOnOk W.write_str_gives f.old result (answers_text worth (map reply_told replies.now)) f.new }
 {
     write!(f, "worth {worth}\nnot upheld")?;
     show_replies(replies, f)

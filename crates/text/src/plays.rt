@@ -28,7 +28,7 @@ fn show_trick<W: fmt::Write>(
     f: &mut fmt::Formatter<W>,
 ) -> fmt::Result
     requires { before + 1 < 2 ^ 64 }
-    ensures { WritesOnOk write_str_gives f.old result (trick_line before (taker_of taker)) f.new }
+    ensures { WritesOnOk W.write_str_gives f.old result (trick_line before (taker_of taker)) f.new }
 {
     match taker {
         Some(player) => {
@@ -55,7 +55,7 @@ fn count_trick(before: usize, taker: Option<Player>) -> usize
 // A play after so many tricks.
 fn show_play<W: fmt::Write>(before: usize, play: Play, f: &mut fmt::Formatter<W>) -> fmt::Result
     requires { before + 1 < 2 ^ 64 }
-    ensures { WritesOnOk write_str_gives f.old result (play_text before (note_of play)) f.new }
+    ensures { WritesOnOk W.write_str_gives f.old result (play_text before (note_of play)) f.new }
 {
     f.write(Shown(play))?;
     show_trick(before, play.taker, f)
@@ -64,7 +64,7 @@ fn show_play<W: fmt::Write>(before: usize, play: Play, f: &mut fmt::Formatter<W>
 // Plays after others and so many tricks, a newline before each.
 fn show_more<W: fmt::Write>(before: usize, plays: &[Play], f: &mut fmt::Formatter<W>) -> fmt::Result
     requires { before + length plays.now < 2 ^ 64 }
-    ensures { WritesOnOk write_str_gives f.old result (more_plays before (notes_of plays.now)) f.new }
+    ensures { WritesOnOk W.write_str_gives f.old result (more_plays before (notes_of plays.now)) f.new }
 {
     let mut ended = before;
     for play in plays {

@@ -10,14 +10,14 @@ use std::fmt;
 
 // A card that stands after another, a space before it.
 fn show_next<W: fmt::Write>(card: Card, f: &mut fmt::Formatter<W>) -> fmt::Result
-    ensures { WritesOnOk write_str_gives f.old result (codes " " ++ card_text card.number) f.new }
+    ensures { WritesOnOk W.write_str_gives f.old result (codes " " ++ card_text card.number) f.new }
 {
     write!(f, " {}", Shown(card))
 }
 
 // Cards that stand after another.
 fn show_more<W: fmt::Write>(cards: &[Card], f: &mut fmt::Formatter<W>) -> fmt::Result
-    ensures { WritesOnOk write_str_gives f.old result (more_cards (numbers cards.now)) f.new }
+    ensures { WritesOnOk W.write_str_gives f.old result (more_cards (numbers cards.now)) f.new }
 {
     for card in cards {
         show_next(*card, f)?;

@@ -6,4 +6,4 @@ use Rattle.text.proofs.judgement.show_answers.Goals as goal
 
 pub returns : goal.returns
 returns g c =
-    both _ (codes "worth " ++ (decimal c.args.worth ++ codes "\nnot upheld")) (reply_lines (map reply_told c.args.replies.now)) c.in-ok-write.ensures.shows c.show-replies.ensures
+    both _ (codes "worth " ++ (decimal c.args.worth ++ codes "\nnot upheld")) (reply_lines (map reply_told c.args.replies.now)) c.in_ok-write.ensures.writes c.show_replies.ensures

@@ -7,10 +7,10 @@ use Rattle.text.proofs.plays.show_more.Goals as goal
 
 pub loop-play-preserved : goal.loop-play-preserved
 loop-play-preserved g c = (
-  omega (arith, c.loop-play.invariant.0, c.count-trick-ended.ensures.bound),
-  one_more _ _ _ c.loop-play.invariant.1 (both _ _ _ c.in-ok-write-str.ensures.writes c.in-ok-show-play.ensures)
+  omega (arith, c.loop-play.invariant.0, c.count_trick-ended.ensures.bound),
+  one_more _ _ _ c.loop-play.invariant.1 (both _ _ _ c.in_ok-write_str.ensures.writes c.in_ok-show_play.ensures)
       (at_item (λ ps. more_plays c.loop-play.ended (notes_of ps)) _ _ _ c.loop-play-test.true c.play-item.is
-      ∙ ap (λ n. (codes "\n" ++ play_text c.loop-play.ended (note_of c.play-item.result)) ++ more_plays n (notes_of (drop (c.loop-play.play-index + 1) c.args.plays.now))) (sym c.count-trick-ended.ensures.value)),
+      ∙ ap (λ n. (codes "\n" ++ play_text c.loop-play.ended (note_of c.play-item.result)) ++ more_plays n (notes_of (drop (c.loop-play.play-index + 1) c.args.plays.now))) (sym c.count_trick-ended.ensures.value)),
 )
 
 pub returns : goal.returns

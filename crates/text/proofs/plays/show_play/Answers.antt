@@ -5,4 +5,4 @@ use Rattle.text.proofs.Sofar.{both}
 use Rattle.text.proofs.plays.show_play.Goals as goal
 
 pub returns : goal.returns
-returns g c = both _ (play_line (note_of c.args.play)) (trick_line c.args.before (taker_of c.args.play.taker)) c.in-ok-write.ensures.writes c.show-trick.ensures
+returns g c = both _ (play_line (note_of c.args.play)) (trick_line c.args.before (taker_of c.args.play.taker)) c.in_ok-write.ensures.writes c.show_trick.ensures

@@ -10,9 +10,9 @@ pub returns-in-empty-clause-writes : goal.returns-in-empty-clause-writes
 returns-in-empty-clause-writes g c =
     λ plain ok. has_written_of_eq _ _ _ _ _ (sym (ap (λ ps. plays_text (notes_of ps)) (nil_from_length c.args.self.now.0.now (search rules)))) (put_none _ _ plain)
 
-pub returns-in-ok-show-play-clause-writes : goal.returns-in-ok-show-play-clause-writes
-returns-in-ok-show-play-clause-writes g c =
+pub returns-in_ok-show_play-in-len1-up-clause-writes : goal.returns-in_ok-show_play-in-len1-up-clause-writes
+returns-in_ok-show_play-in-len1-up-clause-writes g c =
     λ plain ok. has_written_of_eq _ _ _ _ _
-    (ap (λ n. play_text 0 (note_of c.first-item.result) ++ more_plays n (notes_of (take (length c.args.self.now.0.now - 1) (drop 1 c.args.self.now.0.now)))) c.count-trick.ensures.value
+    (ap (λ n. play_text 0 (note_of c.first-item.result) ++ more_plays n (notes_of (take (length c.args.self.now.0.now - 1) (drop 1 c.args.self.now.0.now)))) c.count_trick.ensures.value
     ∙ sym (at_first (λ ps. plays_text (notes_of ps)) c.args.self.now.0.now c.first-item.result (search rules) c.first-item.is))
-    (both _ _ _ c.in-ok-show-play.ensures c.show-more.ensures plain ok)
+    (both _ _ _ c.in_ok-show_play-in-len1-up.ensures c.show_more.ensures plain ok)

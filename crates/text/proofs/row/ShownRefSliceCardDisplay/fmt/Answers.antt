@@ -8,9 +8,9 @@ use Rattle.text.proofs.row.ShownRefSliceCardDisplay.fmt.Goals as goal
 
 pub returns-in-empty-clause-writes : goal.returns-in-empty-clause-writes
 returns-in-empty-clause-writes g c =
-    λ plain ok. has_written_of_eq _ _ _ _ _ (sym (ap (λ cs. row_text (numbers cs)) (nil_from_length c.args.self.now.0.now (search rules)))) (c.write-str.ensures.writes plain ok)
+    λ plain ok. has_written_of_eq _ _ _ _ _ (sym (ap (λ cs. row_text (numbers cs)) (nil_from_length c.args.self.now.0.now (search rules)))) (c.write_str.ensures.writes plain ok)
 
-pub returns-in-ok-write-clause-writes : goal.returns-in-ok-write-clause-writes
-returns-in-ok-write-clause-writes g c =
+pub returns-in_ok-write-in-len1-up-clause-writes : goal.returns-in_ok-write-in-len1-up-clause-writes
+returns-in_ok-write-in-len1-up-clause-writes g c =
     λ plain ok. has_written_of_eq _ _ _ _ _ (sym (at_first (λ cs. row_text (numbers cs)) c.args.self.now.0.now c.first-item.result (search rules) c.first-item.is))
-    (both _ _ _ c.in-ok-write.ensures.writes c.show-more.ensures plain ok)
+    (both _ _ _ c.in_ok-write-in-len1-up.ensures.writes c.show_more.ensures plain ok)
