@@ -1,7 +1,6 @@
 // Tests of the reader: deals that are taken, and each refusal at each of its places.
 #![tactic(auto)]
 
-
 #[cfg(test)]
 mod tests {
     use cards::reader::read_deal;
@@ -176,10 +175,12 @@ mod tests {
         let Ok(deal) = read_deal(&[3, 3, 3, 48, 51, 50, 0, 0, 1, 49, 0], AMPLE) else {
             return Err(Fail::new("refused"));
         };
+        let second = deal.board.trick[1];
+        let third = deal.board.hands[2];
         assert_eq!(rt; deal.board.leader.seat, 3);
         assert_eq!(rt; deal.board.played, 3);
-        assert_eq!(rt; deal.board.trick[1].number, 51);
-        assert_eq!(rt; deal.board.hands[2].bits, 1 << 49);
+        assert_eq!(rt; second.number, 51);
+        assert_eq!(rt; third.bits, 1 << 49);
         Ok(())
     }
 }

@@ -1,7 +1,6 @@
 // Tests of the two calls that the programs make, from an input to the lines of its answer.
 #![tactic(auto)]
 
-
 #[cfg(test)]
 mod judged;
 #[cfg(test)]

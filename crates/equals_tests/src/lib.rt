@@ -1,7 +1,6 @@
 // Tests of the cards that are as good as each other: deals, with the lowest of them.
 #![tactic(auto)]
 
-
 #[cfg(test)]
 mod tests {
     use cards::card::Card;

@@ -1,7 +1,6 @@
 // Tests of the referee: rows that are taken, with who played and who took each trick, and each refusal at some of its places.
 #![tactic(auto)]
 
-
 #[cfg(test)]
 mod tests {
     use cards::card::Card;

@@ -1,7 +1,6 @@
 // Tests of the worth: tables whose worth is known.
 #![tactic(auto)]
 
-
 #[cfg(test)]
 mod tests {
     use cards::reader::read_deal;
