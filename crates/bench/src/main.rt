@@ -31,7 +31,6 @@ fn time_deal(rt: &HostRuntime, deal: &[u8]) -> anyhow::Result<()> {
         plays: 32,
         positions: 1,
         worths: 1,
-        follow: 0,
     };
     match read_deal(deal, room) {
         Ok(read) => time_table(rt, &read.board, read.board.hands[0].len()),

@@ -5,8 +5,8 @@ use Rattle.std.proofs.lemmas.List.{get_or_past}
 use Rattle.std.proofs.lemmas.Bool.Decides.{Decides-like, Decides-not, Decides-and, Decides-or, Decides-eqb, Decides-ltb, Decides-below_or}
 use Rattle.cards.specs.Table.{deck, suit, most_tricks, has_suit}
 use Rattle.cards.specs.Deal.{byte, start_of, number_byte, cards_of, has, largest, most_cards, share, revokes}
-use Rattle.cards.specs.Faults.{Check, bad_trump, bad_lead, no_room, cut_short, bad_card, bad_share, bad_suit, SomeNumber, HandCard, Fault}
-use Rattle.cards.specs.Reading.{found}
+use Rattle.cards.specs.Faults.{Check, bad_trump, bad_lead, no_room, cut_short, bad_card, bad_share, bad_suit, SomeNumber, HandCard, Fault, FaultBefore}
+use Rattle.cards.specs.Reading.{found, found_before}
 use Rattle.cards.specs.declared.room.Room.{Room}
 use Rattle.cards.proofs.Finds.{Finds, finds_same, finds_fault, finds_or, finds_first}
 use Rattle.cards.proofs.DealLaws.{start_next, start_mono}
@@ -97,7 +97,17 @@ pub finds_faults : (bs : List ℕ) (room : Room) (k : Check) → Finds (Fault bs
 finds_faults bs room bad_trump = finds_fault _ 0 (Decides-ltb 4 (byte bs 0))
 finds_faults bs room bad_lead = finds_or _ _ (λ p q a b. omega arith) (finds_fault _ 1 (Decides-ltb 3 (byte bs 1))) (finds_fault _ 2 (Decides-ltb 3 (byte bs 2)))
 finds_faults bs room no_room = finds_room bs room
-finds_faults bs room cut_short = finds_fault _ (length bs) (Decides-ltb (length bs) (start_of bs 4 + room.follow))
+finds_faults bs room cut_short = finds_fault _ (length bs) (Decides-ltb (length bs) (start_of bs 4))
 finds_faults bs room bad_card = finds_card bs room
 finds_faults bs room bad_share = finds_share bs room
 finds_faults bs room bad_suit = finds_suit bs room
+
+-- the same where n bytes have to follow the deal
+pub finds_faults_before : (n : ℕ) (bs : List ℕ) (room : Room) (k : Check) → Finds (FaultBefore n bs room k) (found_before n bs room k)
+finds_faults_before n bs room bad_trump = finds_faults bs room bad_trump
+finds_faults_before n bs room bad_lead = finds_faults bs room bad_lead
+finds_faults_before n bs room no_room = finds_faults bs room no_room
+finds_faults_before n bs room cut_short = finds_fault _ (length bs) (Decides-ltb (length bs) (start_of bs 4 + n))
+finds_faults_before n bs room bad_card = finds_faults bs room bad_card
+finds_faults_before n bs room bad_share = finds_faults bs room bad_share
+finds_faults_before n bs room bad_suit = finds_faults bs room bad_suit

@@ -20,7 +20,7 @@ no_fault false p e = refl
 
 -- any room will do, where a check does not look at it
 some_room : Room
-some_room = record { cards = 0; plays = 0; positions = 0; worths = 0; follow = 0 }
+some_room = record { cards = 0; plays = 0; positions = 0; worths = 0 }
 
 module _ (bs : List ℕ) (cards : card_fault bs ≡ None) where
   good_card : (p : ℕ) → CardPlace bs p → byte bs p < deck

@@ -1,10 +1,11 @@
 -- The reader's answer refuses by the first check that fails, at its first place, and takes what passes all. Assumes nothing.
 use Rattle.std.proofs.Common.{◌≡◌, ℕ, zero, suc, ◌<◌, ◌⊎◌, List, [], ◌∷◌, Some, None, Option, sym, refl, ap, ◌∙◌, subst, inl, inr, arith}
 use Rattle.std.proofs.lemmas.Bool.{cases_order, cases_eq}
-use Rattle.cards.specs.Faults.{Check, bad_trump, bad_lead, no_room, cut_short, bad_card, bad_share, bad_suit, order, number, Fault, First}
-use Rattle.cards.specs.Reading.{Right, refuses, refuse_at, found, run, reading}
+use Rattle.cards.specs.Faults.{Check, bad_trump, bad_lead, no_room, cut_short, bad_card, bad_share, bad_suit, order, number, Fault, FaultBefore, FirstOf}
+use Rattle.cards.specs.Reading.{Right, RightOf, refuses, refuse_at, found, found_before, run_by, checks, reading, reading_before}
 use Rattle.cards.specs.declared.room.Room.{Room}
-use Rattle.cards.proofs.CheckFaults.{finds_faults}
+use Rattle.cards.proofs.Finds.{Finds}
+use Rattle.cards.proofs.CheckFaults.{finds_faults, finds_faults_before}
 
 -- the check of an order
 at_order : ℕ → Check
@@ -47,12 +48,13 @@ cases_found : (o : Option ℕ) → (o ≡ None) ⊎ ((p : ℕ) × (o ≡ Some p)
 cases_found None = inl refl
 cases_found (Some p) = inr (p, refl)
 
-module _ (bs : List ℕ) (room : Room) where
+-- checks that each find the first place of their faults F
+module _ (bs : List ℕ) (F : Check → ℕ → Type 0) (find : Check → Option ℕ) (finds : (k : Check) → Finds (F k) (find k)) where
   -- no check of order below m fails
   abbrev Clean : ℕ → Type 0
-  Clean m = (j : Check) (q : ℕ) → order j < m → Fault bs room j q → ⊥
+  Clean m = (j : Check) (q : ℕ) → order j < m → F j q → ⊥
 
-  taken_right : Clean 7 → Right bs room (run bs room [])
+  taken_right : Clean 7 → RightOf F bs (run_by find bs [])
   taken_right clean = record {
     refused = λ n p e. let z : ◌≡◌ {A = ℕ} 0 1 = cc in absurd (omega arith);
     refuses_first = λ k p f. absurd (clean k p (order_below k) f.here);
@@ -61,13 +63,13 @@ module _ (bs : List ℕ) (room : Room) where
   }
 
   -- a first refusal is the only one
-  first_once : (j k : Check) (p q : ℕ) → First bs room j p → First bs room k q → refuses (number j) p ≡ refuses (number k) q
+  first_once : (j k : Check) (p q : ℕ) → FirstOf F j p → FirstOf F k q → refuses (number j) p ≡ refuses (number k) q
   first_once j k p q f g = elim (cases_order (order j) (order k)) [
     | inl e ↦ elim (cases_order p q) [
       | inl s ↦ let same : j ≡ k = same_from_order j k e in cc
       | inr o ↦ elim o [
-        | inl l ↦ absurd (g.before p l (subst (λ (i : Check). Fault bs room i p) (same_from_order j k e) f.here))
-        | inr l ↦ absurd (f.before q l (subst (λ (i : Check). Fault bs room i q) (sym (same_from_order j k e)) g.here))
+        | inl l ↦ absurd (g.before p l (subst (λ (i : Check). F i p) (same_from_order j k e) f.here))
+        | inr l ↦ absurd (f.before q l (subst (λ (i : Check). F i q) (sym (same_from_order j k e)) g.here))
       ]
     ]
     | inr o ↦ elim o [
@@ -76,33 +78,37 @@ module _ (bs : List ℕ) (room : Room) where
     ]
   ]
 
-  refused_right : (k : Check) (p : ℕ) → First bs room k p → Right bs room (refuses (number k) p)
+  refused_right : (k : Check) (p : ℕ) → FirstOf F k p → RightOf F bs (refuses (number k) p)
   refused_right k p f = record {
-    refused = λ n q e. (k, cc, subst (λ (x : ℕ). First bs room k x) (let s : p ≡ q = cc in s) f);
+    refused = λ n q e. (k, cc, subst (λ (x : ℕ). FirstOf F k x) (let s : p ≡ q = cc in s) f);
     refuses_first = λ j q g. first_once k j p q f g;
     taken = λ t size e. let z : ◌≡◌ {A = ℕ} 0 1 = cc in absurd (omega arith);
     takes = λ clean. absurd (clean k p f.here);
   }
 
-  run_right : (ks : List Check) (m : ℕ) → Row m ks → Clean m → Right bs room (run bs room ks)
+  run_right : (ks : List Check) (m : ℕ) → Row m ks → Clean m → RightOf F bs (run_by find bs ks)
   run_right [] m row clean = taken_right (subst Clean row clean)
-  run_right (k ∷ ks) m row clean = elim (cases_found (found bs room k)) [
+  run_right (k ∷ ks) m row clean = elim (cases_found (find k)) [
     | inl e ↦
         let more : Clean (suc m) = λ j q l h. elim (cases_eq (order j) m) [
-          | inl s ↦ (finds_faults bs room k).none e q (subst (λ (i : Check). Fault bs room i q) (same_from_order j k (s ∙ sym row.0)) h)
+          | inl s ↦ (finds k).none e q (subst (λ (i : Check). F i q) (same_from_order j k (s ∙ sym row.0)) h)
           | inr s ↦ clean j q (omega arith) h
         ] in
-        subst (λ (o : Option ℕ). Right bs room (refuse_at o (number k) (run bs room ks))) (sym e) (run_right ks (suc m) row.1 more)
+        subst (λ (o : Option ℕ). RightOf F bs (refuse_at o (number k) (run_by find bs ks))) (sym e) (run_right ks (suc m) row.1 more)
     | inr h ↦
-        let f : First bs room k h.0 = record {
-          here = (finds_faults bs room k).here h.0 h.1;
-          before = (finds_faults bs room k).before h.0 h.1;
+        let f : FirstOf F k h.0 = record {
+          here = (finds k).here h.0 h.1;
+          before = (finds k).before h.0 h.1;
           earlier = λ j q l. clean j q (omega arith);
         } in
-        subst (λ (o : Option ℕ). Right bs room (refuse_at o (number k) (run bs room ks))) (sym h.1) (refused_right k h.0 f)
+        subst (λ (o : Option ℕ). RightOf F bs (refuse_at o (number k) (run_by find bs ks))) (sym h.1) (refused_right k h.0 f)
   ]
 
+  checks_right : RightOf F bs (run_by find bs checks)
+  checks_right = run_right checks 0 (refl, (refl, (refl, (refl, (refl, (refl, (refl, refl))))))) (λ j q l. absurd (omega arith))
+
 pub reading_right : (bs : List ℕ) (room : Room) → Right bs room (reading bs room)
-reading_right bs room =
-    run_right bs room (bad_trump ∷ bad_lead ∷ no_room ∷ cut_short ∷ bad_card ∷ bad_share ∷ bad_suit ∷ []) 0
-    (refl, (refl, (refl, (refl, (refl, (refl, (refl, refl))))))) (λ j q l. absurd (omega arith))
+reading_right bs room = checks_right bs (Fault bs room) (found bs room) (finds_faults bs room)
+
+pub reading_before_right : (n : ℕ) (bs : List ℕ) (room : Room) → RightOf (FaultBefore n bs room) bs (reading_before n bs room)
+reading_before_right n bs room = checks_right bs (FaultBefore n bs room) (found_before n bs room) (finds_faults_before n bs room)

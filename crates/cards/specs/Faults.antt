@@ -57,7 +57,7 @@ Fault bs room no_room p =
     ((p ≡ 0) × SomeNumber bs (λ n. room.cards < n))
     ⊎ (((p ≡ 1) × SomeNumber bs (λ n. room.plays < 4 * n))
     ⊎ ((p ≡ 2) × ((room.positions ≡ 0) ⊎ (room.positions ≢ room.worths))))
-Fault bs room cut_short p = (p ≡ length bs) × (length bs < start_of bs 4 + room.follow)
+Fault bs room cut_short p = (p ≡ length bs) × (length bs < start_of bs 4)
 Fault bs room bad_card p = CardPlace bs p × ((deck ≤ byte bs p) ⊎ ((q : ℕ) × (q < p) × CardPlace bs q × (byte bs q ≡ byte bs p)))
 Fault bs room bad_share p =
     (q : ℕ) × (q < 4) × (p ≡ start_of bs q) × ((share bs q ≢ share bs (byte bs 1)) ⊎ ((share bs q ≡ 0) ⊎ (most_tricks < share bs q)))
@@ -65,8 +65,22 @@ Fault bs room bad_suit p =
     (i : ℕ) × (i < byte bs 2) × (p ≡ 3 + i) × (suit (byte bs p) ≢ suit (byte bs 3))
     × ((r : ℕ) × HandCard bs ((byte bs 1 + i) % 4) r × (byte bs r < deck) × (suit (byte bs r) ≡ suit (byte bs 3)))
 
--- the refusal that applies first: the check fails at p, at no earlier place, and no earlier check fails anywhere
-pub record First (bs : List ℕ) (room : Room) (k : Check) (p : ℕ) : Type 0 where
-  pub here : Fault bs room k p
-  pub before : (q : ℕ) → q < p → Fault bs room k q → ⊥
-  pub earlier : (j : Check) (q : ℕ) → order j < order k → Fault bs room j q → ⊥
+-- the same of a deal that n bytes have to follow: it also ends too early where fewer do
+abbrev pub FaultBefore : ℕ → List ℕ → Room → Check → ℕ → Type 0
+FaultBefore n bs room bad_trump p = Fault bs room bad_trump p
+FaultBefore n bs room bad_lead p = Fault bs room bad_lead p
+FaultBefore n bs room no_room p = Fault bs room no_room p
+FaultBefore n bs room cut_short p = (p ≡ length bs) × (length bs < start_of bs 4 + n)
+FaultBefore n bs room bad_card p = Fault bs room bad_card p
+FaultBefore n bs room bad_share p = Fault bs room bad_share p
+FaultBefore n bs room bad_suit p = Fault bs room bad_suit p
+
+-- of faults F, by check and place, the one that applies first: the check fails at p, at no earlier place, and no earlier check fails anywhere
+pub record FirstOf (F : Check → ℕ → Type 0) (k : Check) (p : ℕ) : Type 0 where
+  pub here : F k p
+  pub before : (q : ℕ) → q < p → F k q → ⊥
+  pub earlier : (j : Check) (q : ℕ) → order j < order k → F j q → ⊥
+
+-- the refusal of a deal that applies first
+abbrev pub First : List ℕ → Room → Check → ℕ → Type 0
+First bs room k p = FirstOf (Fault bs room) k p

@@ -7,9 +7,9 @@ ghost use Rattle.cards.specs.Bits.{bit};
 ghost use Rattle.cards.specs.Hands.{bits_of, held, numbers};
 ghost use Rattle.cards.specs.Deal.{byte, start_of, most_cards, trick_of, cards_of, has, first, first_bad, hand_fault, share, uneven, share_fault, fault, against};
 ghost use Rattle.cards.specs.Numbers.{trump_number};
-ghost use Rattle.cards.specs.Faults.{bad_card, bad_share, bad_suit};
+ghost use Rattle.cards.specs.Faults.{bad_card, bad_share, bad_suit, FaultBefore};
 ghost use Rattle.cards.specs.Parts.{Says, place_in, Starts, Gathered, Dealt};
-ghost use Rattle.cards.specs.Reading.{run, reading, Right};
+ghost use Rattle.cards.specs.Reading.{run, reading, reading_before, Right, RightOf};
 ghost use Rattle.cards.specs.Told.{told_board, told};
 ghost use Rattle.cards.specs.declared.room.Room.{Room as Memory};
 
@@ -300,10 +300,10 @@ fn board_in(
     })
 }
 
-// The checks in their order.
-fn checked_deal(bytes: &[u8], room: Room) -> Result<Deal, Refusal>
-    ensures value { told result ≡ reading bytes.now room }
-    ensures within { IfOk result (λ d. d.size + room.follow ≤ length bytes.now) }
+// The checks in their order, of a deal that so many bytes have to follow.
+fn checked_deal(bytes: &[u8], room: Room, follow: u8) -> Result<Deal, Refusal>
+    ensures value { told result ≡ reading_before follow bytes.now room }
+    ensures within { IfOk result (λ d. d.size + follow ≤ length bytes.now) }
 {
     let Some(trump) = Trump::from_number(byte_at(bytes, 0)) else {
         return Err(Refusal::Trump);
@@ -325,18 +325,27 @@ fn checked_deal(bytes: &[u8], room: Room) -> Result<Deal, Refusal>
     let Some(_) = positions_fit(room) else {
         return Err(Refusal::Short(Lent::Positions));
     };
-    let Some(size) = whole(starts[4], room.follow, bytes.len()) else {
+    let Some(size) = whole(starts[4], follow, bytes.len()) else {
         return Err(Refusal::Ends(bytes.len()));
     };
     let board = board_in(bytes, starts, trump, leader, played)?;
     Ok(Deal { board, size })
 }
 
-// Reads a deal, given what the caller has and needs for it.
+// Reads a deal, given the memory that the caller has for it.
 pub fn read_deal(bytes: &[u8], room: Room) -> Result<Deal, Refusal>
     ensures value { told result ≡ reading bytes.now room }
     ensures first { Right bytes.now room (told result) }
-    ensures within { IfOk result (λ d. d.size + room.follow ≤ length bytes.now) }
+    ensures within { IfOk result (λ d. d.size ≤ length bytes.now) }
 {
-    checked_deal(bytes, room)
+    checked_deal(bytes, room, 0)
+}
+
+// Reads a deal that so many bytes have to follow: where fewer do, the bytes end too early.
+pub fn read_deal_before(bytes: &[u8], room: Room, follow: u8) -> Result<Deal, Refusal>
+    ensures value { told result ≡ reading_before follow bytes.now room }
+    ensures first { RightOf (FaultBefore follow bytes.now room) bytes.now (told result) }
+    ensures within { IfOk result (λ d. d.size + follow ≤ length bytes.now) }
+{
+    checked_deal(bytes, room, follow)
 }

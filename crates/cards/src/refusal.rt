@@ -18,7 +18,7 @@ pub enum Refusal {
     Leader,
     // there are more than three cards in the trick
     Trick,
-    // the bytes end before four hands are whole, with what has to follow them
+    // the deal ends before four hands are whole, or before what has to follow it
     Ends(usize),
     // a card above 51, or one that is there twice
     Card(usize),

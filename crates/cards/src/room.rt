@@ -1,4 +1,4 @@
-// The memory that a caller has for a deal, and the bytes that it needs after it.
+// The memory that a caller has for a deal.
 #[derive(Clone, Copy)]
 pub struct Room {
     // the most cards in a hand
@@ -8,6 +8,4 @@ pub struct Room {
     // the lengths of the two slices for positions and their worths
     pub positions: usize,
     pub worths: usize,
-    // how many bytes have to follow the deal
-    pub follow: u8,
 }

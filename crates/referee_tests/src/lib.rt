@@ -15,7 +15,6 @@ mod tests {
         plays: 32,
         positions: 1,
         worths: 1,
-        follow: 0,
     };
 
     // in place of who took the trick, where a card ends none

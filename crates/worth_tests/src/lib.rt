@@ -13,7 +13,6 @@ mod tests {
         plays: 32,
         positions: 64,
         worths: 64,
-        follow: 0,
     };
 
     // tables with their worth: trump and leader, and the hands from player 0 on

@@ -2,7 +2,7 @@ use Rattle.std.proofs.Common.{◌≡◌, [], ◌∷◌, sym, ap, ◌∙◌, arit
 use Rattle.std.proofs.lemmas.Result.{err_from_is_err_and, IfOk-from_err}
 use Rattle.cards.specs.Seen.{seen}
 use Rattle.cards.specs.Faults.{bad_card, bad_share, bad_suit}
-use Rattle.cards.specs.Reading.{accepts, refuses, run, reading}
+use Rattle.cards.specs.Reading.{accepts, refuses, run, reading_before}
 use Rattle.cards.specs.Refusals.{number_of, place_of}
 use Rattle.cards.specs.Told.{told}
 use Rattle.cards.specs.declared.refusal.Refusal.{Refusal}
@@ -11,13 +11,13 @@ use Rattle.cards.proofs.reader.checked_deal.Goals as goal
 use Rattle.cards.proofs.reader.checked_deal.Goals.{In-Some-whole}
 
 -- the checks before those of the cards have passed
-passed : (c : In-Some-whole) → reading c.args.bytes.now c.args.room ≡ run c.args.bytes.now c.args.room (bad_card ∷ bad_share ∷ bad_suit ∷ [])
+passed : (c : In-Some-whole) → reading_before c.args.follow c.args.bytes.now c.args.room ≡ run c.args.bytes.now c.args.room (bad_card ∷ bad_share ∷ bad_suit ∷ [])
 passed c =
     on_to_cards c.args.bytes.now c.args.room c.most_cards_in-most.result
     (omega (arith, trump_low c.in-Some.trump, c.in-Some.ensures, c.byte_at.ensures))
     (omega (arith, c.in-Some-from_seat.ensures, c.in-Some-from_seat.leader.low, c.byte_at-2.ensures))
     (omega (arith, c.in-Some-trick_size.ensures, c.byte_at-3.ensures))
-    c.most_cards_in-most.ensures c.in-Some-hands_fit.ensures.1 c.in-Some-plays_fit.ensures.1 c.in-Some-positions_fit.ensures.1
+    c.most_cards_in-most.ensures c.in-Some-hands_fit.ensures.1 c.in-Some-plays_fit.ensures.1 c.in-Some-positions_fit.ensures.1 c.args.follow
     (omega (arith, c.in-Some-whole.ensures, c.starts_in-starts.ensures.at 4 (omega arith)))
 
 pub returns-in_err-board : goal.returns-in_err-board
