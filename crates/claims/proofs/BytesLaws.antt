@@ -1,9 +1,10 @@
 -- From bytes to the answer: the parts put together. Assumes nothing.
-use Rattle.std.proofs.Common.{◌≡◌, ℕ, zero, suc, ◌+◌, ◌*◌, ◌<◌, ◌≤◌, Bool, true, false, ◌||◌, eqb, ltb, leb, ◌⊎◌, List, [], ◌∷◌, length, drop, Ok, Err, Result, sym, refl, ap, ◌∙◌, subst, inl, inr, arith, length-take}
+use Rattle.std.proofs.Common.{◌≡◌, ℕ, zero, suc, ◌+◌, ◌*◌, ◌<◌, ◌≤◌, Bool, true, false, ◌||◌, eqb, ltb, leb, ◌⊎◌, List, [], ◌∷◌, length, drop, Ok, Err, Result, IfOk, sym, refl, ap, ◌∙◌, subst, inl, inr, arith, length-take}
 use Rattle.std.proofs.lemmas.Bool.{both_ways, cases_eq, cases_lt, and_parts, and_from, lt-ltb, le-ltb, eq-eqb, ne_eqb}
 use Rattle.cards.specs.Table.{Table, pick, one, deck, count, cards_left, InOrder}
 use Rattle.cards.specs.Deal.{byte, start_of, number_byte, cards_of, has, table_in}
-use Rattle.cards.specs.Faults.{Check, no_room, cut_short, number, First}
+use Rattle.cards.specs.Faults.{Check, bad_trump, bad_lead, no_room, cut_short, bad_share, bad_suit, number, Fault, FirstOf}
+use Rattle.cards.specs.Faults as deal
 use Rattle.cards.specs.Reading as reading
 use Rattle.cards.specs.Refusals.{number_of, place_of}
 use Rattle.cards.specs.Seen.{seen, tricks_left}
@@ -25,33 +26,45 @@ use Rattle.worth.specs.Value.{tricks_at}
 use Rattle.worth.specs.Answer.{usable}
 use Rattle.worth.proofs.ValueLaws as value
 use Rattle.claims.specs.Claimed.{claims_side, claims_tricks, claimable, Made, NoClaim}
-use Rattle.claims.specs.Judged.{JudgementTold, Refused, judgement_told, ClaimJudged}
+use Rattle.claims.specs.Judged.{JudgementTold, Refused, judgement_told, Counted, ClaimJudged}
 use Rattle.claims.specs.Judging.{Judging}
 use Rattle.claims.specs.PlayedOn.{LineRefused, no_places, no_slots, bad_card, PlayOnTold}
 use Rattle.claims.specs.SideBytes.{SideTold}
-use Rattle.claims.specs.Bytes.{GoodDeal, rest_of, RowRefused, bad_deal, bad_row, RowStands, table_after, TableTold, before_claim, side_byte, tricks_byte, before, InputRefused, bad_claim, InputJudged, InputTold, player_byte, others_row, SideStands, StartRefused, no_deal, bad_side, PlayRefused, bad_line, PlayTold}
+use Rattle.claims.specs.Bytes.{GoodDeal, rest_of, RowRefused, bad_deal, bad_row, RowStands, table_after, TableTold, before_claim, side_byte, tricks_byte, before, InputRefused, bad_claim, InputJudged, InputTold, PlayFault, player_byte, others_row, SideStands, StartRefused, no_deal, bad_side, PlayRefused, bad_line, PlayTold}
 use Rattle.claims.specs.declared.claim.Claim.{Claim}
 use Rattle.claims.specs.declared.claim.Claim.TheVariants.{Ours, Others}
 use Rattle.claims.specs.declared.judge.Judgement.{Judgement}
 use Rattle.claims.specs.declared.play_on.Line.{Line}
 
 -- ---- the deal
-module _ (bs : List ℕ) (room : Room) where
+-- F says by check and place what is wrong with it
+module _ (F : Check → ℕ → Type 0) (bs : List ℕ) where
   -- what was taken is a good deal, and the table that the bytes say
-  pub deal_taken : (d : Deal) → reading.Right bs room (told (Ok d)) → GoodDeal bs room × (seen d.board ≡ table_in bs) × (d.size ≡ start_of bs 4)
+  pub deal_taken : (d : Deal) → reading.RightOf F bs (told (Ok d)) → GoodDeal F × (seen d.board ≡ table_in bs) × (d.size ≡ start_of bs 4)
   deal_taken d right =
       let good = right.taken (seen d.board) d.size refl in
       let is = right.takes good in
       (good, (let e : seen d.board ≡ table_in bs = cc in e), (let e : d.size ≡ start_of bs 4 = cc in e))
 
-  pub deal_refused : (e : Refusal) → reading.Right bs room (told (Err e)) → (k : Check) × (number k ≡ number_of e) × First bs room k (place_of e)
+  pub deal_refused : (e : Refusal) → reading.RightOf F bs (told (Err e)) → (k : Check) × (number k ≡ number_of e) × FirstOf F k (place_of e)
   deal_refused e right = right.refused (number_of e) (place_of e) refl
 
-  pub start_refused : (e : Refusal) → reading.Right bs room (told (Err e)) → StartRefused bs room (number_of e) (place_of e)
-  start_refused e right = let (k, is, first) = deal_refused e right in subst (λ (n : ℕ). StartRefused bs room n (place_of e)) is (no_deal k first)
+module _ (bs : List ℕ) (room : Room) where
+  pub start_refused : (e : Refusal) → reading.RightOf (PlayFault bs room) bs (told (Err e)) → StartRefused bs room (number_of e) (place_of e)
+  start_refused e right = let (k, is, first) = deal_refused (PlayFault bs room) bs e right in subst (λ (n : ℕ). StartRefused bs room n (place_of e)) is (no_deal k first)
+
+  -- a good deal that the side byte has to follow is a good deal
+  pub good_alone : GoodDeal (PlayFault bs room) → GoodDeal (Fault bs room)
+  good_alone good bad_trump p = good bad_trump p
+  good_alone good bad_lead p = good bad_lead p
+  good_alone good no_room p = good no_room p
+  good_alone good cut_short p = λ f. good cut_short p (f.0, omega arith)
+  good_alone good deal.bad_card p = good deal.bad_card p
+  good_alone good bad_share p = good bad_share p
+  good_alone good bad_suit p = good bad_suit p
 
   -- the slices of a good deal's room can be used
-  pub lent_slots : (keys worths : List ℕ) → room.positions ≡ length keys → room.worths ≡ length worths → GoodDeal bs room → usable keys worths ≡ true
+  pub lent_slots : (keys worths : List ℕ) → room.positions ≡ length keys → room.worths ≡ length worths → GoodDeal (Fault bs room) → usable keys worths ≡ true
   lent_slots keys worths a b good = elim (cases_eq room.positions 0) [
     | inl z ↦ absurd (good no_room 2 (inr (inr (refl, inl z))))
     | inr some ↦ elim (cases_eq room.positions room.worths) [
@@ -77,20 +90,20 @@ row_answer t n o cs lent lent' l (Err e) value right =
     (stops, why)
 
 module _ (bs : List ℕ) (room : Room) where
-  row_told : GoodDeal bs room → (r : Result Board Refusal) → RowAnswer (table_in bs) (rest_of bs) r → TableTold bs room r
+  row_told : GoodDeal (Fault bs room) → (r : Result Board Refusal) → RowAnswer (table_in bs) (rest_of bs) r → TableTold bs room r
   row_told good (Ok b) (fit, reached) = (record { deal = good; row = fit }, reached)
   row_told good (Err e) (stops, why) = bad_row good stops why
 
   pub table_told : (d : Deal) → reading.Right bs room (told (Ok d)) → (cs : List ℕ) → cs ≡ drop d.size bs → (lent lent' : List Play) → length lent ≡ 32 → (r : Result Board Refusal) →
       referee.Refereed (seen d.board) cs lent lent' r → Right (seen d.board) (length lent) cs (referee.told (length cs) lent' r) → TableTold bs room r
   table_told d taken cs rest lent lent' l r value right =
-      let (good, table, size) = deal_taken bs room d taken in
+      let (good, table, size) = deal_taken (Fault bs room) bs d taken in
       let b = d.board in
       let answer = row_answer (seen b) (tricks_left b) (in_order b) cs lent lent' (omega (arith, few_cards (seen b) (tricks_left b) (in_order b))) r value right in
       row_told good r (subst (λ (xs : List ℕ). RowAnswer (table_in bs) xs r) (rest ∙ ap (λ (k : ℕ). drop k bs) size) (subst (λ (t : Table). RowAnswer t cs r) table answer))
 
   pub table_refused : (e : Refusal) → reading.Right bs room (told (Err e)) → TableTold bs room (Err e)
-  table_refused e right = let (k, is, first) = deal_refused bs room e right in subst (λ (n : ℕ). RowRefused bs room n (place_of e)) is (bad_deal k first)
+  table_refused e right = let (k, is, first) = deal_refused (Fault bs room) bs e right in subst (λ (n : ℕ). RowRefused bs room n (place_of e)) is (bad_deal k first)
 
 -- ---- the claim
 -- the side that claims is the one that its byte says
@@ -113,10 +126,10 @@ claim_refused bs room b stands is side tricks left s k l e none =
 
 module _ (side tricks : ℕ) (b : Board) (c : Claim) (made : Made side tricks (tricks_left b) c) (keys worths keys' worths' : List ℕ) where
   -- a claim that was made is judged, with slices that can be used
-  never_refused : (e : Refusal) → usable keys worths ≡ true → Refused (usable keys worths) (tricks_left b) (claims_tricks c) keys worths keys' worths' e → ⊥
+  never_refused : (e : Refusal) → usable keys worths ≡ true → Refused (leb (claims_tricks c) (tricks_left b)) keys worths keys' worths' e → ⊥
   never_refused e lent h =
       let within : leb (claims_tricks c) (tricks_left b) ≡ true = ap (λ (k : ℕ). leb k (tricks_left b)) made.many ∙ (and_parts _ _ made.claimed).1 in
-      both_ways _ (subst (λ (x : Bool). Refused x (tricks_left b) (claims_tricks c) keys worths keys' worths' e) lent h).claimed within
+      both_ways _ (subst (λ (x : Bool). Refused x keys worths keys' worths' e) within h).lent lent
 
   -- and judged at its table
   judged_at : (u : Table) → seen b ≡ u → (j : Judging) → JudgementTold (claims_side c) (tricks_left b) (claims_tricks c) (seen b) keys worths keys' worths' j →
@@ -132,30 +145,30 @@ module _ (side tricks : ℕ) (b : Board) (c : Claim) (made : Made side tricks (t
 
   pub input_told : (bs : List ℕ) (room : Room) → side ≡ side_byte bs → tricks ≡ tricks_byte bs → room.positions ≡ length keys → room.worths ≡ length worths →
       RowStands (before_claim bs) room → seen b ≡ table_after (before_claim bs) → (r : Result Judgement Refusal) →
-      ClaimJudged (claims_side c) (tricks_left b) (claims_tricks c) (seen b) keys worths keys' worths' r → InputTold bs room keys worths keys' worths' r
-  input_told bs room s k a e stands is (Err x) h = absurd (never_refused x (lent_slots (before_claim bs) room keys worths a e stands.deal) h)
-  input_told bs room s k a e stands is (Ok j) h =
+      ClaimJudged (claims_side c) (tricks_left b) (claims_tricks c) (seen b) keys worths keys' worths' r → IfOk r Counted → InputTold bs room keys worths keys' worths' r
+  input_told bs room s k a e stands is (Err x) h _ = absurd (never_refused x (lent_slots (before_claim bs) room keys worths a e stands.deal) h)
+  input_told bs room s k a e stands is (Ok j) h counted =
       let u = table_after (before_claim bs) in
-      let (claimed, judged) = judged_at u is (judgement_told j) h.0 in (
+      let (claimed, judged) = judged_at u is (judgement_told j) h in (
         record {
           stands = stands;
           claimed = subst (λ (n : ℕ). claimable n (tricks_byte bs) (tricks_at u) ≡ true) s (subst (λ (n : ℕ). claimable side n (tricks_at u) ≡ true) k claimed);
           judged = subst (λ (n : ℕ). JudgementTold (eqb n 0) (tricks_at u) (tricks_byte bs) u keys worths keys' worths' (judgement_told j)) s
               (subst (λ (n : ℕ). JudgementTold (eqb side 0) (tricks_at u) n u keys worths keys' worths' (judgement_told j)) k judged);
         },
-        h.1,
+        counted,
       )
 
 -- ---- the side that goes by advice
-module _ (bs : List ℕ) (room : Room) (d : Deal) (taken : reading.Right bs room (told (Ok d))) where
+module _ (bs : List ℕ) (room : Room) (d : Deal) (taken : reading.RightOf (PlayFault bs room) bs (told (Ok d))) where
   pub side_refused : (e : Refusal) → SideTold (byte bs d.size) (Err e) → StartRefused bs room (number_of e) (place_of e)
   side_refused e (l, is) =
-      let (good, _, size) = deal_taken bs room d taken in
+      let (good, _, size) = deal_taken (PlayFault bs room) bs d taken in
       subst (λ (x : Refusal). StartRefused bs room (number_of x) (place_of x)) (sym is) (bad_side good (subst (λ (k : ℕ). 1 < byte bs k) size l))
 
   pub side_known : byte bs d.size < 2 → SideStands bs room
   side_known l =
-      let (good, _, size) = deal_taken bs room d taken in
+      let (good, _, size) = deal_taken (PlayFault bs room) bs d taken in
       record { deal = good; side = subst (λ (k : ℕ). byte bs k < 2) size l }
 
 -- ---- places for plays
@@ -185,9 +198,9 @@ unfolding has
 has_few [] n = let e = count_none (λ _. false) n (λ x. refl) in omega arith
 has_few (c ∷ cs) n = omega (arith, count_either (has cs) c n, has_few cs n, one_most (ltb c n))
 
-module _ (bs : List ℕ) (room : Room) (good : GoodDeal bs room) where
+module _ (bs : List ℕ) (room : Room) (good : GoodDeal (Fault bs room)) where
   whole : start_of bs 4 ≤ length bs
-  whole = elim (cases_lt (length bs) (start_of bs 4 + room.follow)) [ inl l ↦ absurd (good cut_short (length bs) (refl, l)) | inr l ↦ omega arith ]
+  whole = elim (cases_lt (length bs) (start_of bs 4)) [ inl l ↦ absurd (good cut_short (length bs) (refl, l)) | inr l ↦ omega arith ]
 
   -- each hand's plays have places four times over
   fourfold : (p : ℕ) → p < 4 → 4 * number_byte bs p ≤ room.plays
@@ -206,8 +219,8 @@ module _ (bs : List ℕ) (room : Room) (good : GoodDeal bs room) where
 -- ---- playing on
 module _ (bs : List ℕ) (room : Room) (plays plays' : List Play) (keys worths keys' worths' : List ℕ) (a : room.plays ≡ length plays) (b : room.positions ≡ length keys) (c : room.worths ≡ length worths) (stands : SideStands bs room) where
   line_refused : (n p : ℕ) → LineRefused (eqb (player_byte bs) 0) (table_in bs) (others_row bs) (length plays) keys worths keys' worths' n p → PlayRefused bs room keys worths keys' worths' n p
-  line_refused n p (no_places l x y) = absurd (omega (arith, places_suffice bs room stands.deal))
-  line_refused n p (no_slots l u x y) = absurd (both_ways _ u (lent_slots bs room keys worths b c stands.deal))
+  line_refused n p (no_places l x y) = absurd (omega (arith, places_suffice bs room (good_alone bs room stands.deal)))
+  line_refused n p (no_slots l u x y) = absurd (both_ways _ u (lent_slots bs room keys worths b c (good_alone bs room stands.deal)))
   line_refused n p (bad_card l u halts true-slots) = bad_line stands halts true-slots
 
   play_told : (r : Result Line Refusal) → PlayOnTold (eqb (player_byte bs) 0) (table_in bs) (others_row bs) plays plays' keys worths keys' worths' r → PlayTold bs room plays plays' keys worths keys' worths' r

@@ -11,7 +11,7 @@ use Rattle.claims.specs.Claims.{upheld}
 use Rattle.claims.specs.Advice.{advice}
 use Rattle.claims.specs.Failing.{fails, failing, takes_by}
 use Rattle.claims.specs.Judging.{own_turn, next_failing, reply_to, Answered, answered, replies_below, judging}
-use Rattle.claims.specs.Shown.{Refutes, Refuted, at_once, by_lead, NextRefuted, Replied, EachReplied, Justified}
+use Rattle.claims.specs.Shown.{Refutes, Refuted, at_once, by_lead, NextRefuted, Replied, EachReplied, Shows}
 use Rattle.claims.proofs.LowestLaws.{lowest_is, lowest_empty}
 use Rattle.claims.proofs.CardLaws.{kept}
 use Rattle.claims.proofs.AdviceLaws.{advice_some, advice_none, named}
@@ -93,15 +93,15 @@ module _ (side : Bool) (n k : ℕ) (t : Table) (s : Sound t n) (e : upheld side 
     | inr m ↦ subst (λ (b : Bool). EachReplied side n k t (pick b (replies_below side n k t i ++ (answered side n k t i ∷ [])) (replies_below side n k t i))) (sym m) (each i)
   ]
 
-pub judging_shows : (t : Table) (n : ℕ) → Sound t n → (side : Bool) (k : ℕ) → Justified side n k t (judging side n k t)
+pub judging_shows : (t : Table) (n : ℕ) → Sound t n → (side : Bool) (k : ℕ) → Shows side n k t (judging side n k t)
 judging_shows t n s side k = elim (cases_Bool (upheld side n k (worth_of t))) [
-  | inl e ↦ subst (Justified side n k t) (judged_upheld side n k t n (worth_of t) refl refl (advice t) e refl) (named t n s (advice t) refl)
+  | inl e ↦ subst (Shows side n k t) (judged_upheld side n k t n (worth_of t) refl refl (advice t) e refl) (named t n s (advice t) refl)
   | inr e ↦ elim (cases_Bool (own_turn side t)) [
     | inl own ↦
         let turn = own_side side (our_turn t) own in
-        subst (Justified side n k t) (judged_replies side n k t n (worth_of t) refl refl (replies_below side n k t deck) e own refl) (turn, each side n k t s e turn deck)
+        subst (Shows side n k t) (judged_replies side n k t n (worth_of t) refl refl (replies_below side n k t deck) e own refl) (turn, each side n k t s e turn deck)
     | inr own ↦
-        subst (Justified side n k t) (judged_fails side n k t n (worth_of t) refl refl (failing side n k t) e own refl)
+        subst (Shows side n k t) (judged_fails side n k t n (worth_of t) refl refl (failing side n k t) e own refl)
         (refuted side n k t s (other_side side (our_turn t) own) e)
   ]
 ]

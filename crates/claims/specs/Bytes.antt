@@ -2,7 +2,7 @@
 use Rattle.std.specs.Prelude.{◌≡◌, ℕ, ◌+◌, ◌-◌, ◌<◌, Bool, true, false, List, length, take, drop, Ok, Err, Result, ◌==◌}
 use Rattle.cards.specs.Table.{Table}
 use Rattle.cards.specs.Deal.{byte, start_of, table_in}
-use Rattle.cards.specs.Faults.{Check, number, Fault, First}
+use Rattle.cards.specs.Faults.{Check, number, Fault, FaultBefore, FirstOf, First}
 use Rattle.cards.specs.Refusals.{number_of, place_of}
 use Rattle.cards.specs.Seen.{seen}
 use Rattle.cards.specs.declared.board.Board.{Board}
@@ -21,9 +21,9 @@ use Rattle.claims.specs.declared.judge.Judgement.{Judgement}
 use Rattle.claims.specs.declared.play_on.Line.{Line}
 
 -- ---- a deal and what follows it
--- no check of a deal fails
-abbrev pub GoodDeal : List ℕ → Room → Type 0
-GoodDeal bs room = (k : Check) (p : ℕ) → Fault bs room k p → ⊥
+-- no check of a deal fails, where F says by check and place what is wrong with it
+abbrev pub GoodDeal : (Check → ℕ → Type 0) → Type 0
+GoodDeal F = (k : Check) (p : ℕ) → F k p → ⊥
 
 -- what follows the deal
 abbrev pub rest_of : List ℕ → List ℕ
@@ -42,7 +42,7 @@ tricks_byte bs = byte bs ((length bs - 2) + 1)
 
 -- the memory that judging has, given the most cards in a hand and the slices for positions: places for the plays of any deal, four times the largest number byte, are its own
 abbrev pub judging_room : ℕ → List ℕ → List ℕ → Room
-judging_room cards keys worths = record { cards = cards; plays = 1020; positions = length keys; worths = length worths; follow = 0 }
+judging_room cards keys worths = record { cards = cards; plays = 1020; positions = length keys; worths = length worths }
 
 -- the table after the row that follows a deal
 abbrev pub table_after : List ℕ → Table
@@ -50,13 +50,13 @@ table_after bs = table_at (table_in bs) (rest_of bs) (length (rest_of bs))
 
 -- a deal and its row are in order: no check of the deal fails, and each card of the row may be played where it stands
 pub record RowStands (bs : List ℕ) (room : Room) : Type 0 where
-  pub deal : GoodDeal bs room
+  pub deal : GoodDeal (Fault bs room)
   pub row : AllFit (table_in bs) (rest_of bs)
 
 -- the first refusal of a deal and its row: the first check of the deal that fails, at its first place; then the first card of the row that may not be played, for what is wrong with it
 pub data RowRefused (bs : List ℕ) (room : Room) : ℕ → ℕ → Type 0 where
   bad_deal : {p : ℕ} (k : Check) → First bs room k p → RowRefused bs room (number k) p
-  bad_row : {n p : ℕ} → GoodDeal bs room → Stops (table_in bs) (rest_of bs) p → Why (table_at (table_in bs) (rest_of bs) p) (card_at (rest_of bs) p) n → RowRefused bs room n p
+  bad_row : {n p : ℕ} → GoodDeal (Fault bs room) → Stops (table_in bs) (rest_of bs) p → Why (table_at (table_in bs) (rest_of bs) p) (card_at (rest_of bs) p) n → RowRefused bs room n p
 
 -- the first refusal of an input that is to be judged: of the deal and its row, and last of the claim
 pub data InputRefused (bs : List ℕ) (room : Room) : ℕ → ℕ → Type 0 where
@@ -80,26 +80,29 @@ TableTold bs room (Ok b) = RowStands bs room × (seen b ≡ table_after bs)
 TableTold bs room (Err e) = RowRefused bs room (number_of e) (place_of e)
 
 -- ---- playing on
--- the side byte stands after the deal, and then the cards of the other side
+-- the side byte stands after the deal, which it has to follow, and then the cards of the other side
+abbrev pub PlayFault : List ℕ → Room → Check → ℕ → Type 0
+PlayFault bs room = FaultBefore 1 bs room
+
 abbrev pub player_byte : List ℕ → ℕ
 player_byte bs = byte bs (start_of bs 4)
 
 abbrev pub others_row : List ℕ → List ℕ
 others_row bs = drop (start_of bs 4 + 1) bs
 
--- the memory that playing on has; the side byte has to follow the deal
+-- the memory that playing on has
 abbrev pub playing_room : ℕ → List Play → List ℕ → List ℕ → Room
-playing_room cards plays keys worths = record { cards = cards; plays = length plays; positions = length keys; worths = length worths; follow = 1 }
+playing_room cards plays keys worths = record { cards = cards; plays = length plays; positions = length keys; worths = length worths }
 
 -- a deal and its side byte are in order
 pub record SideStands (bs : List ℕ) (room : Room) : Type 0 where
-  pub deal : GoodDeal bs room
+  pub deal : GoodDeal (PlayFault bs room)
   pub side : player_byte bs < 2
 
 -- the refusals before any card is played: of the deal, which ends too early also where no side byte follows it; then of a side byte that means nothing
 pub data StartRefused (bs : List ℕ) (room : Room) : ℕ → ℕ → Type 0 where
-  no_deal : {p : ℕ} (k : Check) → First bs room k p → StartRefused bs room (number k) p
-  bad_side : GoodDeal bs room → 1 < player_byte bs → StartRefused bs room 10 0
+  no_deal : {p : ℕ} (k : Check) → FirstOf (PlayFault bs room) k p → StartRefused bs room (number k) p
+  bad_side : GoodDeal (PlayFault bs room) → 1 < player_byte bs → StartRefused bs room 10 0
 
 -- the first refusal of an input that is to be played on, with the slices for positions before and after: they are written only once the deal and its side byte stand
 pub data PlayRefused (bs : List ℕ) (room : Room) (keys worths keys' worths' : List ℕ) : ℕ → ℕ → Type 0 where

@@ -9,7 +9,7 @@ use Rattle.worth.specs.Positions.{True}
 use Rattle.worth.specs.Answer.{usable, TurnedAway}
 use Rattle.claims.specs.Claims.{Can, Cannot}
 use Rattle.claims.specs.Judging.{Answered, Judging, upholds, fails_by, replies, judging}
-use Rattle.claims.specs.Shown.{Justified}
+use Rattle.claims.specs.Shown.{Shows}
 use Rattle.claims.specs.declared.replies.Reply.{Reply}
 use Rattle.claims.specs.declared.judge.Judgement.{Judgement}
 use Rattle.claims.specs.declared.judge.Judgement.TheVariants.{Upheld, Fails, Replies}
@@ -56,23 +56,22 @@ pub record JudgementTold (side : Bool) (n k : ℕ) (t : Table) (keys worths keys
   pub upheld_if : Decides (is_upheld j) (Can side n k t)
   pub refused_if : Decides (not (is_upheld j)) (Cannot side n k t)
   pub worth : Worth t (worth_told j)
-  pub shows : Justified side n k t j
+  pub shows : Shows side n k t j
   pub kept : True t keys' worths'
 
 -- more are claimed than are left: a refusal, 10 at 0, and the slices are as they were
-pub record Overclaimed (n k : ℕ) (keys worths keys' worths' : List ℕ) (e : Refusal) : Type 0 where
-  pub claimed : nat_le k n ≡ false
+pub record Overclaimed (keys worths keys' worths' : List ℕ) (e : Refusal) : Type 0 where
   pub number : number_of e ≡ 10
   pub place : place_of e ≡ 0
   pub same_keys : keys' ≡ keys
   pub same_worths : worths' ≡ worths
 
--- the refusal: first of slices that can't be used, then of a claim of more tricks than are left
-abbrev pub Refused : Bool → ℕ → ℕ → List ℕ → List ℕ → List ℕ → List ℕ → Refusal → Type 0
-Refused true n k keys worths keys' worths' e = Overclaimed n k keys worths keys' worths' e
-Refused false n k keys worths keys' worths' e = TurnedAway keys worths keys' worths' e
+-- the refusal: first of a claim of more tricks than are left, then of slices that can't be used
+abbrev pub Refused : Bool → List ℕ → List ℕ → List ℕ → List ℕ → Refusal → Type 0
+Refused true keys worths keys' worths' e = TurnedAway keys worths keys' worths' e
+Refused false keys worths keys' worths' e = Overclaimed keys worths keys' worths' e
 
 -- the answer for the claim at table t with these slices, which are keys' and worths' afterwards
 abbrev pub ClaimJudged : Bool → ℕ → ℕ → Table → List ℕ → List ℕ → List ℕ → List ℕ → Result Judgement Refusal → Type 0
-ClaimJudged side n k t keys worths keys' worths' (Ok j) = JudgementTold side n k t keys worths keys' worths' (judgement_told j) × Counted j
-ClaimJudged side n k t keys worths keys' worths' (Err e) = Refused (usable keys worths) n k keys worths keys' worths' e
+ClaimJudged side n k t keys worths keys' worths' (Ok j) = JudgementTold side n k t keys worths keys' worths' (judgement_told j)
+ClaimJudged side n k t keys worths keys' worths' (Err e) = Refused (nat_le k n) keys worths keys' worths' e

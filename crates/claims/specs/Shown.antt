@@ -39,7 +39,7 @@ EachReplied side n k t [] = Unit {0}
 EachReplied side n k t (a ∷ rest) = (may t a.card ≡ true) × Replied side n k t a.card a.reply × EachReplied side n k t rest
 
 -- what a judgement shows: the card to play; a card that refutes the claim; a reply to each card that may be played, where the side is to play
-abbrev pub Justified : Bool → ℕ → ℕ → Table → Judging → Type 0
-Justified side n k t (upholds w o) = Named t n o
-Justified side n k t (fails_by w o) = Refuted side n k t o
-Justified side n k t (replies w rs) = (our_turn t ≡ side) × EachReplied side n k t rs
+abbrev pub Shows : Bool → ℕ → ℕ → Table → Judging → Type 0
+Shows side n k t (upholds w o) = Named t n o
+Shows side n k t (fails_by w o) = Refuted side n k t o
+Shows side n k t (replies w rs) = (our_turn t ≡ side) × EachReplied side n k t rs

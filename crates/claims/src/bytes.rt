@@ -10,7 +10,7 @@ use crate::play_on::{Line, play_on};
 use cards::board::Board;
 use cards::card::Card;
 use cards::player::{Player, Side};
-use cards::reader::{byte_at, read_deal};
+use cards::reader::{byte_at, read_deal, read_deal_before};
 use cards::refusal::Refusal;
 use cards::room::Room;
 use referee::row::{Play, play_row};
@@ -76,7 +76,6 @@ pub fn judge_bytes(
         plays: 1020,
         positions: positions.len(),
         worths: worths.len(),
-        follow: 0,
     };
     let end = ending_of(bytes);
     let before = end.before;
@@ -111,9 +110,9 @@ pub fn play_bytes(
         plays: plays.len(),
         positions: positions.len(),
         worths: worths.len(),
-        follow: 1,
     };
-    let deal = read_deal(bytes, room)?;
+    // the byte for the side has to follow
+    let deal = read_deal_before(bytes, room, 1)?;
     let side = side_of(byte_at(bytes, deal.size))?;
     let row = rest_from(bytes, deal.size + 1);
     play_on(&deal.board, side, row, plays, positions, worths)

@@ -1,5 +1,5 @@
 // The judgement of a claim, with memory that is lent for the positions.
-ghost use Rattle.std.specs.Prelude.{◌≡◌, ◌<◌, length, nat_le};
+ghost use Rattle.std.specs.Prelude.{◌≡◌, ◌<◌, length, IfOk, nat_le};
 ghost use Rattle.cards.specs.Seen.{seen, tricks_left};
 ghost use Rattle.worth.specs.Positions.{True};
 ghost use Rattle.claims.specs.Claimed.{claims_side, claims_tricks};
@@ -83,13 +83,14 @@ pub fn judge(
     positions: &mut [u64],
     worths: &mut [u8],
 ) -> Result<Judgement, Refusal>
-    ensures { ClaimJudged (claims_side claim) (tricks_left board.now) (claims_tricks claim) (seen board.now) positions.old worths.old positions.new worths.new result }
+    ensures judged { ClaimJudged (claims_side claim) (tricks_left board.now) (claims_tricks claim) (seen board.now) positions.old worths.old positions.new worths.new result }
+    ensures counted { IfOk result Counted }
 {
-    if !is_usable(positions, worths) {
-        return Err(Refusal::Short(Lent::Positions));
-    }
     if !is_within(claim, tricks_left(board)) {
         return Err(Refusal::Claim);
+    }
+    if !is_usable(positions, worths) {
+        return Err(Refusal::Short(Lent::Positions));
     }
     clear(board, positions, worths);
     Ok(judge_at_root(board, claim, positions, worths))

@@ -1,13 +1,12 @@
 -- The argument of a program. Assumes nothing: these are definitions.
-use Rattle.std.specs.Prelude.{ℕ, ◌-◌, Bool, true, false, ◌&&◌, List, [], ◌∷◌, Some, None, Option, nat_le}
+use Rattle.std.specs.Prelude.{ℕ, ◌≤◌, List, Option}
+use Rattle.std.specs.Option.{SomeIff}
+use Rattle.std.specs.Str.Parse.{IsNumeral, digits_value, without_leading_plus}
 
--- the number that a digit says, if it is one from 1 to 8
-abbrev pub digit : Bool → ℕ → Option ℕ
-digit true d = Some (d - 48)
-digit false d = None
+-- the number that the digits of a word say; a plus may stand before them
+abbrev pub said : List ℕ → ℕ
+said w = digits_value 10 (without_leading_plus w)
 
--- the most cards in a hand that a word asks for: one digit, and no more
-abbrev pub served : List ℕ → Option ℕ
-served [] = None
-served (d ∷ []) = digit (nat_le 49 d && nat_le d 56) d
-served (d ∷ e ∷ rest) = None
+-- the most cards in a hand that a word asks for: it is a number, from 1 to 8
+abbrev pub Served : List ℕ → Option ℕ → Type 0
+Served w r = SomeIff r (IsNumeral 10 (without_leading_plus w) × (1 ≤ said w) × (said w ≤ 8)) (said w)

@@ -2,7 +2,7 @@
 #![tactic(auto)]
 
 ghost use Rattle.std.specs.Prelude.{◌≡◌, ◌+◌, ◌*◌, ◌^◌, ◌≤◌, min, ◌⊎◌, IfSome, IfOk, vec_len};
-ghost use Rattle.console.specs.Served.{served};
+ghost use Rattle.console.specs.Served.{Served};
 
 use anyhow::anyhow;
 use std::alloc::Global;
@@ -10,13 +10,13 @@ use std::env;
 use std::io::Read;
 use worth::positions::slots;
 
-// The number of cards that a word says, if it is a digit from 1 to 8.
+// The number of cards that a word says, if it is from 1 to 8.
 fn cards_in(word: &str) -> Option<u8>
-    ensures value { result ≡ served word.now }
+    ensures value { Served word.now result }
     ensures bound { IfSome result (λ n. (1 ≤ n) × (n ≤ 8)) }
 {
-    match word.as_bytes() {
-        [digit] if *digit >= b'1' && *digit <= b'8' => Some(*digit - b'0'),
+    match word.parse::<u8>() {
+        Ok(cards) if cards >= 1 && cards <= 8 => Some(cards),
         _ => None,
     }
 }

@@ -7,7 +7,7 @@ use Rattle.tricks.specs.Statements.{left_after}
 use Rattle.tricks.proofs.Stays.{stays_sound}
 use Rattle.referee.specs.Plays.{Noted, noted}
 use Rattle.referee.specs.Row.{why, Outcome, played, refuses, noting, row, refereed}
-use Rattle.referee.specs.Right.{card_at, table_at, PlayableAt, AllFit, Stops, Why, PlaysOf, Right}
+use Rattle.referee.specs.Right.{card_at, table_at, Fits, AllFit, Stops, Why, PlaysOf, Right}
 use Rattle.referee.proofs.LogLaws.{row_goes, row_stops}
 use Rattle.referee.proofs.WhyLaws.{why_right, why_one, why_of_card}
 
@@ -41,7 +41,7 @@ module _ (t : Table) (c : ℕ) (cs : List ℕ) (i : ℕ) (m : may t c ≡ true) 
   later : (P : Table → Type 0) (k : ℕ) → P (table_at (after t c) cs k) → P (table_at t (c ∷ cs) (suc k))
   later P k h = subst P (table_later t c cs k) h
 
-  fits_first : PlayableAt t (c ∷ cs) 0
+  fits_first : Fits t (c ∷ cs) 0
   fits_first = subst (λ (u : Table). may u c ≡ true) (sym (table_first t (c ∷ cs))) m
 
   runs_on : Runs (after t c) cs (row (after t c) (suc i) cs) → Runs t (c ∷ cs) (row t i (c ∷ cs))
@@ -73,7 +73,7 @@ module _ (t : Table) (c : ℕ) (cs : List ℕ) (i : ℕ) (m : may t c ≡ true) 
     why = later (λ u. Why u (card_at cs h.place) h.number) h.place h.why;
   }
     where
-      fits : (k : ℕ) → k < suc h.place → PlayableAt t (c ∷ cs) k
+      fits : (k : ℕ) → k < suc h.place → Fits t (c ∷ cs) k
       fits zero l = fits_first
       fits (suc k) l = later (λ u. may u (card_at cs k) ≡ true) k (h.stops.before k (omega arith))
 

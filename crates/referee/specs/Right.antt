@@ -15,18 +15,18 @@ table_at t cs zero = t
 table_at t cs (suc i) = after (table_at t cs i) (card_at cs i)
 
 -- card i may be played where it stands
-abbrev pub PlayableAt : Table → List ℕ → ℕ → Type 0
-PlayableAt t cs i = may (table_at t cs i) (card_at cs i) ≡ true
+abbrev pub Fits : Table → List ℕ → ℕ → Type 0
+Fits t cs i = may (table_at t cs i) (card_at cs i) ≡ true
 
 -- each card of a row may be played where it stands
 abbrev pub AllFit : Table → List ℕ → Type 0
-AllFit t cs = (i : ℕ) → i < length cs → PlayableAt t cs i
+AllFit t cs = (i : ℕ) → i < length cs → Fits t cs i
 
 -- p is the place of the first card of a row that may not be played
 pub record Stops (t : Table) (cs : List ℕ) (p : ℕ) : Type 0 where
   pub there : p < length cs
-  pub here : PlayableAt t cs p → ⊥
-  pub before : (i : ℕ) → i < p → PlayableAt t cs i
+  pub here : Fits t cs p → ⊥
+  pub before : (i : ℕ) → i < p → Fits t cs i
 
 -- nobody at the table has a card
 abbrev pub Nobody : Table → Type 0

@@ -11,5 +11,5 @@ pub mod row;
 pub mod stands;
 
 // A value of the game that is shown as text.
-#[derive(Drop)]
+#[derive(Clone, Copy, Drop)]
 pub struct Shown<T>(pub T);

@@ -2,7 +2,7 @@ use Rattle.std.proofs.Common.{ℕ, ◌+◌, eqb, drop, Ok, Err, sym, refl, ap, �
 use Rattle.std.proofs.lemmas.Result.{err_from_is_err_and}
 use Rattle.cards.specs.Deal.{byte}
 use Rattle.claims.specs.SideBytes.{SideTold}
-use Rattle.claims.specs.Bytes.{playing_room, at_start, PlayTold}
+use Rattle.claims.specs.Bytes.{PlayFault, playing_room, at_start, PlayTold}
 use Rattle.claims.proofs.BytesLaws.{deal_taken, start_refused, side_refused, side_known, input_played}
 use Rattle.claims.proofs.bytes.play_bytes.Goals as goal
 
@@ -35,6 +35,6 @@ returns c =
     let taken = c.in_ok-deal.ensures.first in
     let room = playing_room c.args.cards c.args.plays.now c.args.positions.now c.args.worths.now in
     let (low, side) = subst (λ (b : ℕ). SideTold b (Ok c.in_ok-side.side)) c.byte_at.ensures c.in_ok-side.ensures in
-    let (_, table, size) = deal_taken bs room d taken in
+    let (_, table, size) = deal_taken (PlayFault bs room) bs d taken in
     input_played bs room c.args.plays.now c.play_on.new.plays c.args.positions.now c.args.worths.now c.play_on.new.positions c.play_on.new.worths refl refl refl (side_known bs room d taken low)
     _ _ _ (side ∙ ap (λ (k : ℕ). eqb (byte bs k) 0) size) table (c.rest_from-row.ensures ∙ ap (λ (k : ℕ). drop (k + 1) bs) size) c.play_on.result c.play_on.ensures
