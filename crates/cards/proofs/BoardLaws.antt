@@ -1,5 +1,5 @@
 -- The board that the reader makes of a deal stands for the table that the deal says. Assumes nothing.
-use Rattle.std.proofs.Common.{◌≡◌, ℕ, zero, suc, ◌+◌, ◌%◌, ◌<◌, ◌≤◌, Bool, true, false, not, ◌&&◌, eqb, ltb, ◌⊎◌, List, [], length, get_or, take, drop, Some, None, Option, sym, refl, ap, ◌∙◌, subst, ap₂, inl, inr, arith}
+use Rattle.std.proofs.Common.{◌≡◌, ℕ, zero, suc, ◌+◌, ◌%◌, ◌<◌, ◌≤◌, Bool, false, not, ◌&&◌, eqb, ltb, List, [], length, get_or, take, drop, None, Option, sym, refl, ap, ◌∙◌, subst, ap₂, inl, inr, arith}
 use mathlib.Core.Path.{fun_ext}
 use Rattle.std.proofs.lemmas.List.{length-map, length-take-le, get_or-take, get_or_past, ext_get_or}
 use Rattle.std.proofs.lemmas.Bool.{lt-ltb, le-ltb, cases_lt}
@@ -7,7 +7,7 @@ use Rattle.cards.specs.Table.{Table, one, deck, suit, has_suit, count, InOrder}
 use Rattle.cards.specs.Bits.{bit}
 use Rattle.cards.specs.Numbers.{trump_number}
 use Rattle.cards.specs.Hands.{bits_of, held, numbers, table_of, tricks_of, Kept}
-use Rattle.cards.specs.Deal.{byte, start_of, trick_of, cards_of, has, or_else, first, fault, first_bad, hand_fault, card_fault, share, share_fault, against, revokes, suit_fault, table_in}
+use Rattle.cards.specs.Deal.{byte, start_of, trick_of, cards_of, has, or_else, first, fault, first_bad, card_fault, share, share_fault, against, revokes, suit_fault, table_in}
 use Rattle.cards.specs.Parts.{Dealt}
 use Rattle.cards.specs.declared.card.Card.{Card}
 use Rattle.cards.specs.declared.card.Trump.{Trump}

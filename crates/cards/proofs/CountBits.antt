@@ -1,6 +1,6 @@
 -- The cards of a set are as many as the ones of its number. Assumes nothing.
-use Rattle.std.proofs.Common.{◌≡◌, ℕ, zero, suc, ◌+◌, ◌-◌, ◌*◌, ◌/◌, ◌%◌, ◌^◌, ◌<◌, ◌≤◌, Bool, eqb, sym, refl, ap, ◌∙◌, ap₂, add-one, arith}
-use lib.Count.{ones, ones_cat, ones_step}
+use Rattle.std.proofs.Common.{◌≡◌, ℕ, zero, suc, ◌+◌, ◌-◌, ◌*◌, ◌/◌, ◌%◌, ◌^◌, ◌<◌, eqb, sym, refl, ap, ◌∙◌, ap₂, arith}
+use lib.Count.{ones, ones_cat}
 use Rattle.std.proofs.lemmas.Nat.{pow_pos, pow-add, mod_below, div_below, shr_split, field_of, mod-pow-add}
 use Rattle.cards.specs.Table.{one, count}
 use Rattle.cards.specs.Bits.{bit}

@@ -1,16 +1,16 @@
 -- A deal that passes the checks says a table in order. Assumes nothing.
-use Rattle.std.proofs.Common.{◌≡◌, ℕ, suc, ◌+◌, ◌-◌, ◌%◌, ◌<◌, ◌≤◌, Bool, true, false, not, ◌&&◌, eqb, ltb, ◌⊎◌, List, length, get_or, take, drop, None, Option, sym, refl, ap, ◌∙◌, subst, ap₂, inl, inr, arith}
+use Rattle.std.proofs.Common.{◌≡◌, ℕ, suc, ◌+◌, ◌-◌, ◌%◌, ◌<◌, ◌≤◌, Bool, true, false, not, ◌&&◌, eqb, ltb, List, length, get_or, None, sym, refl, ap, ◌∙◌, subst, ap₂, inl, inr, arith}
 use mathlib.Core.Path.{fun_ext}
 use Rattle.std.proofs.lemmas.List.{get_or_default}
-use Rattle.std.proofs.lemmas.Bool.{lt-ltb, ltb-true, eq-eqb, ne_eqb, eqb-true, ltb-false, not-false, not_from_false, cases_lt, cases_order, cases_Bool, and_parts, and_cases, or_parts, both_ways}
-use Rattle.cards.specs.Table.{Table, one, deck, suit, has_suit, most_tricks, count, Sound, InOrder}
+use Rattle.std.proofs.lemmas.Bool.{lt-ltb, ltb-true, ne_eqb, eqb-true, ltb-false, not-false, not_from_false, cases_lt, cases_order, cases_Bool, and_parts, and_cases, or_parts, both_ways}
+use Rattle.cards.specs.Table.{one, deck, suit, has_suit, most_tricks, count, Sound, InOrder}
 use Rattle.cards.specs.Bits.{bit}
-use Rattle.cards.specs.Deal.{byte, start_of, number_byte, trick_of, cards_of, has, first, fault, card_fault, share, uneven, share_fault, revokes, suit_fault, table_in}
-use Rattle.cards.specs.Faults.{TrickCard, HandCard, CardPlace, Fault, bad_card}
+use Rattle.cards.specs.Deal.{byte, start_of, number_byte, trick_of, cards_of, has, fault, card_fault, share, uneven, share_fault, revokes, suit_fault, table_in}
+use Rattle.cards.specs.Faults.{TrickCard, HandCard, CardPlace}
 use Rattle.cards.specs.Parts.{Dealt}
 use Rattle.cards.specs.declared.room.Room.{Room}
 use Rattle.cards.proofs.CountLaws.{count_same}
-use Rattle.cards.proofs.DealLaws.{start_mono, part_length, part_at, within, first_clean}
+use Rattle.cards.proofs.DealLaws.{start_mono, part_length, part_at, first_clean}
 use Rattle.cards.proofs.Standing.{decides_cards}
 use Rattle.cards.proofs.CardFaults.{finds_card}
 

@@ -1,15 +1,15 @@
 -- A hand read card by card, and the hands one after the other. Assumes nothing.
-use Rattle.std.proofs.Common.{◌≡◌, ℕ, zero, suc, ◌+◌, ◌<◌, ◌≤◌, Bool, true, false, not, ◌||◌, eqb, ltb, ◌≢◌, ◌⊎◌, List, [], ◌∷◌, ◌++◌, length, get_or, take, drop, set, Some, None, Option, sym, refl, ap, ◌∙◌, subst, ap₂, inl, inr, add-zero, add-one, arith, length-set, get_or-set_other, get_or-set_same, below_more}
+use Rattle.std.proofs.Common.{◌≡◌, ℕ, suc, ◌+◌, ◌<◌, ◌≤◌, Bool, true, false, not, ◌||◌, eqb, ltb, ◌≢◌, List, [], ◌∷◌, ◌++◌, length, get_or, take, drop, set, Some, None, Option, sym, ap, ◌∙◌, ap₂, add-zero, add-one, arith, length-set, get_or-set_other, get_or-set_same, below_more}
 use mathlib.Core.Path.{fun_ext}
 use mathlib.Core.Bool.{or_assoc}
-use Rattle.std.proofs.lemmas.Bool.{eq-eqb, ne_eqb, eqb-true, cases_eq, lt-ltb, ltb-true, not-false, or_cases, or_parts, both_ways}
+use Rattle.std.proofs.lemmas.Bool.{ltb-true, not-false, or_parts}
 use Rattle.std.proofs.lemmas.List.{at_drop_more, drop_all, take_more, take_all}
 use Rattle.cards.specs.Table.{pick, deck, count}
 use Rattle.cards.specs.Bits.{bit}
-use Rattle.cards.specs.Deal.{byte, start_of, number_byte, trick_of, cards_of, before, has, first_bad, first, hand_fault}
+use Rattle.cards.specs.Deal.{start_of, number_byte, trick_of, cards_of, before, has, first_bad, hand_fault}
 use Rattle.cards.specs.Parts.{Gathered, Dealt}
 use Rattle.cards.proofs.CountLaws.{or_false, count_same, count_none, count_in}
-use Rattle.cards.proofs.DealLaws.{start_more, within, part_length, has_append}
+use Rattle.cards.proofs.DealLaws.{within, part_length, has_append}
 
 pub has_push : (xs : List ℕ) (c x : ℕ) → has (xs ++ (c ∷ [])) x ≡ (has xs x || eqb x c)
 unfolding has

@@ -4,7 +4,7 @@ use Rattle.std.proofs.lemmas.Bool.{le-ltb}
 use Rattle.cards.specs.Numbers.{trump_number}
 use Rattle.cards.specs.Deal.{byte, start_of, or_else, fault, most_cards, lacks}
 use Rattle.cards.specs.Faults.{bad_trump, bad_lead, no_room, bad_card, bad_share, bad_suit}
-use Rattle.cards.specs.Reading.{Outcome, refuses, refuse_at, found, run_by, run, reading, reading_before}
+use Rattle.cards.specs.Reading.{Outcome, refuses, refuse_at, found, run, reading, reading_before}
 use Rattle.cards.specs.declared.card.Suit.TheVariants.{Clubs, Diamonds, Hearts, Spades}
 use Rattle.cards.specs.declared.card.Trump.{Trump}
 use Rattle.cards.specs.declared.card.Trump.TheVariants.{Of, NoTrump}

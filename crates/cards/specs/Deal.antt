@@ -2,7 +2,7 @@
 --
 -- A deal is trump, leader, the number of cards in the trick, these cards, and for each player 0 to 3 the number of its cards and the cards.
 -- Past the end of the bytes stands 0.
-use Rattle.std.specs.Prelude.{ℕ, zero, suc, ◌+◌, ◌-◌, ◌*◌, ◌%◌, max, Bool, true, false, not, ◌&&◌, ◌||◌, List, [], ◌∷◌, ◌++◌, length, take, drop, Some, None, Option, ◌==◌, nat_lt, slice_index}
+use Rattle.std.specs.Prelude.{ℕ, zero, suc, ◌+◌, ◌-◌, ◌*◌, ◌%◌, max, Bool, false, not, ◌&&◌, ◌||◌, List, [], ◌∷◌, ◌++◌, length, take, drop, Some, None, Option, ◌==◌, nat_lt, slice_index}
 use Rattle.cards.specs.Table.{Table, pick, one, deck, suit, most_tricks, has_suit}
 use Rattle.cards.specs.declared.room.Room.{Room}
 

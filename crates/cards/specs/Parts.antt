@@ -2,7 +2,7 @@
 use Rattle.std.specs.Prelude.{◌≡◌, ℕ, ◌<◌, List, length, Some, None, Option, slice_index}
 use Rattle.cards.specs.Table.{deck, count}
 use Rattle.cards.specs.Bits.{bit}
-use Rattle.cards.specs.Deal.{byte, start_of, number_byte, cards_of, before, has}
+use Rattle.cards.specs.Deal.{start_of, number_byte, cards_of, before, has}
 use Rattle.cards.specs.declared.reader.Checked.{Checked}
 use Rattle.cards.specs.declared.reader.Checked.TheVariants.{Good, At}
 

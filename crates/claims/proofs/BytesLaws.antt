@@ -1,5 +1,5 @@
 -- From bytes to the answer: the parts put together. Assumes nothing.
-use Rattle.std.proofs.Common.{◌≡◌, ℕ, zero, suc, ◌+◌, ◌*◌, ◌<◌, ◌≤◌, Bool, true, false, ◌||◌, eqb, ltb, leb, ◌⊎◌, List, [], ◌∷◌, length, drop, Ok, Err, Result, IfOk, sym, refl, ap, ◌∙◌, subst, inl, inr, arith, length-take}
+use Rattle.std.proofs.Common.{◌≡◌, ℕ, zero, suc, ◌+◌, ◌*◌, ◌<◌, ◌≤◌, Bool, true, false, ◌||◌, eqb, ltb, leb, List, [], ◌∷◌, length, drop, Ok, Err, Result, IfOk, sym, refl, ap, ◌∙◌, subst, inl, inr, arith, length-take}
 use Rattle.std.proofs.lemmas.Bool.{both_ways, cases_eq, cases_lt, and_parts, and_from, lt-ltb, le-ltb, eq-eqb, ne_eqb}
 use Rattle.cards.specs.Table.{Table, pick, one, deck, count, cards_left, InOrder}
 use Rattle.cards.specs.Deal.{byte, start_of, number_byte, cards_of, has, table_in}
@@ -30,7 +30,7 @@ use Rattle.claims.specs.Judged.{JudgementTold, Refused, judgement_told, Counted,
 use Rattle.claims.specs.Judging.{Judging}
 use Rattle.claims.specs.PlayedOn.{LineRefused, no_places, no_slots, bad_card, PlayOnTold}
 use Rattle.claims.specs.SideBytes.{SideTold}
-use Rattle.claims.specs.Bytes.{GoodDeal, rest_of, RowRefused, bad_deal, bad_row, RowStands, table_after, TableTold, before_claim, side_byte, tricks_byte, before, InputRefused, bad_claim, InputJudged, InputTold, PlayFault, player_byte, others_row, SideStands, StartRefused, no_deal, bad_side, PlayRefused, bad_line, PlayTold}
+use Rattle.claims.specs.Bytes.{GoodDeal, rest_of, RowRefused, bad_deal, bad_row, RowStands, table_after, TableTold, before_claim, side_byte, tricks_byte, InputRefused, bad_claim, InputTold, PlayFault, player_byte, others_row, SideStands, StartRefused, no_deal, bad_side, PlayRefused, bad_line, PlayTold}
 use Rattle.claims.specs.declared.claim.Claim.{Claim}
 use Rattle.claims.specs.declared.claim.Claim.TheVariants.{Ours, Others}
 use Rattle.claims.specs.declared.judge.Judgement.{Judgement}

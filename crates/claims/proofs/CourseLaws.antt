@@ -1,18 +1,18 @@
 -- What comes about where one side goes by advice and the other plays a row: only one thing does, and the side is never worse off. Assumes nothing.
-use Rattle.std.proofs.Common.{◌≡◌, ℕ, zero, suc, ◌+◌, ◌<◌, ◌≤◌, Bool, true, false, not, ◌⊎◌, List, [], ◌∷◌, length, get_or, Some, sym, refl, ap, ◌∙◌, subst, ap₂, inl, inr, arith}
+use Rattle.std.proofs.Common.{◌≡◌, ℕ, zero, suc, ◌+◌, ◌<◌, ◌≤◌, Bool, true, not, ◌⊎◌, List, ◌∷◌, length, Some, sym, refl, ap, ◌∙◌, subst, ap₂, inl, inr, arith}
 use Rattle.std.proofs.lemmas.Bool.{both_ways}
 use Rattle.cards.specs.Table.{Table, cards_left, Sound}
 use Rattle.tricks.specs.Rules.{turn, our_turn, may, after, gains}
 use Rattle.tricks.specs.Plays.{Worth}
 use Rattle.tricks.proofs.MayLaws.{may_parts}
-use Rattle.referee.specs.Right.{card_at, table_at, AllFit, Nobody, Why}
+use Rattle.referee.specs.Right.{card_at, table_at, AllFit, Nobody}
 use Rattle.referee.proofs.WhyLaws.{why_one}
 use Rattle.referee.proofs.RowRight.{table_later, table_first}
 use Rattle.worth.specs.Value.{worth_of}
 use Rattle.worth.proofs.ValueLaws.{worth_is, worth_none}
 use Rattle.claims.specs.Advice.{advice, or_zero, advised, Pays}
 use Rattle.claims.specs.Line.{Line, start, then_advice, then_other}
-use Rattle.claims.specs.PlayOn.{RowTurn, Runs, ends, by_advice, by_row, Halts, here, past_advice, past_row, OneWay, OneCourse, won}
+use Rattle.claims.specs.PlayOn.{RowTurn, Runs, ends, by_advice, by_row, Halts, here, past_advice, past_row, OneCourse, won}
 use Rattle.claims.proofs.AdviceLaws.{advice_exists}
 use Rattle.claims.proofs.LineLaws.{never_below}
 use Rattle.claims.proofs.ReplyLaws.{advice_legal}

@@ -1,14 +1,13 @@
 -- The line of play that the referee was given, as it is told. Assumes nothing.
-use Rattle.std.proofs.Common.{◌≡◌, ℕ, ◌+◌, ◌<◌, ◌≤◌, Bool, true, List, [], ◌∷◌, map, length, get_or, take, drop, Ok, Err, Result, sym, refl, ap, ◌∙◌, subst, ap₂, arith}
+use Rattle.std.proofs.Common.{◌≡◌, ℕ, ◌<◌, ◌≤◌, Bool, true, List, [], ◌∷◌, map, length, take, Ok, Err, sym, refl, ap, ◌∙◌, subst, arith}
 use Rattle.std.proofs.lemmas.List.{ext_get_or, length-map, get_or-map}
 use Rattle.cards.specs.Table.{Table, cards_left, Sound}
 use Rattle.cards.specs.Seen.{seen}
 use Rattle.cards.specs.declared.board.Board.{Board}
 use Rattle.cards.specs.declared.refusal.Refusal.{Refusal}
-use Rattle.referee.specs.Plays.{Noted, noted, note_of, notes_of}
-use Rattle.referee.specs.Row.{played}
+use Rattle.referee.specs.Plays.{Noted, noted, notes_of}
 use Rattle.referee.specs.Refereed.{told, Refereed}
-use Rattle.referee.specs.Right.{card_at, table_at, PlaysOf, Right}
+use Rattle.referee.specs.Right.{table_at, PlaysOf, Right}
 use Rattle.referee.specs.declared.row.Play.{Play}
 use Rattle.worth.specs.Positions.{True}
 use Rattle.worth.specs.Answer.{usable}

@@ -1,5 +1,5 @@
 -- Playing on, card by card. Assumes nothing.
-use Rattle.std.proofs.Common.{◌≡◌, ℕ, suc, ◌+◌, ◌<◌, ◌≤◌, Bool, true, false, not, ◌⊎◌, List, [], ◌∷◌, ◌++◌, length, get_or, take, drop, set, Some, None, Ok, Err, Option, sym, refl, ap, ◌∙◌, subst, inl, inr, arith, length-set}
+use Rattle.std.proofs.Common.{◌≡◌, ℕ, suc, ◌+◌, ◌<◌, ◌≤◌, Bool, true, not, List, [], ◌∷◌, ◌++◌, length, take, drop, set, Some, None, Ok, Err, Option, sym, ap, ◌∙◌, subst, inl, inr, arith, length-set}
 use Rattle.std.proofs.lemmas.Bool.{cases_Bool, cases_lt}
 use Rattle.std.proofs.lemmas.List.{append-nil, append_assoc, at_drop_more, at_drop_all, take_more_set}
 use Rattle.cards.specs.Table.{Table, pick, cards_left, Sound}
@@ -9,7 +9,7 @@ use Rattle.cards.specs.declared.refusal.Refusal.{Refusal}
 use Rattle.tricks.specs.Rules.{our_turn, may, after}
 use Rattle.tricks.proofs.CardsLeft.{own_cards, some_trick, one_fewer}
 use Rattle.referee.specs.Row.{why}
-use Rattle.referee.specs.Right.{card_at, Nobody}
+use Rattle.referee.specs.Right.{card_at}
 use Rattle.referee.specs.Parts.{Turned}
 use Rattle.referee.proofs.WhyLaws.{nobody, why_right}
 use Rattle.worth.specs.Positions.{Under, True}

@@ -1,5 +1,5 @@
 -- An input in bytes: a deal with a row of cards and a claim, to be judged; or a deal with a side and the other side's cards, to be played on. Assumes nothing: these are definitions.
-use Rattle.std.specs.Prelude.{◌≡◌, ℕ, ◌+◌, ◌-◌, ◌<◌, Bool, true, false, List, length, take, drop, Ok, Err, Result, ◌==◌}
+use Rattle.std.specs.Prelude.{◌≡◌, ℕ, ◌+◌, ◌-◌, ◌<◌, true, false, List, length, take, drop, Ok, Err, Result, ◌==◌}
 use Rattle.cards.specs.Table.{Table}
 use Rattle.cards.specs.Deal.{byte, start_of, table_in}
 use Rattle.cards.specs.Faults.{Check, number, Fault, FaultBefore, FirstOf, First}

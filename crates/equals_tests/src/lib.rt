@@ -16,7 +16,6 @@ mod tests {
         plays: 32,
         positions: 1,
         worths: 1,
-        follow: 0,
     };
 
     // deals, with the numbers of the cards to try

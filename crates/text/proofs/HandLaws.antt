@@ -1,5 +1,5 @@
 -- The row of the cards that a hand has, the highest first. Assumes nothing.
-use Rattle.std.proofs.Common.{◌≡◌, ℕ, zero, suc, ◌+◌, ◌<◌, ◌≤◌, Bool, true, false, List, [], ◌∷◌, ◌++◌, length, take, set, sym, refl, ap, ◌∙◌, append_assoc, append-nil, add-one, arith, length-set}
+use Rattle.std.proofs.Common.{◌≡◌, ℕ, ◌+◌, ◌<◌, ◌≤◌, Bool, true, false, List, [], ◌∷◌, ◌++◌, length, take, set, sym, refl, ap, ◌∙◌, append_assoc, append-nil, add-one, arith, length-set}
 use Rattle.std.proofs.lemmas.List.{take_more_set, map_push}
 use Rattle.cards.specs.Table.{pick, deck}
 use Rattle.cards.specs.Hands.{numbers}

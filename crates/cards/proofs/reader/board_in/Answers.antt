@@ -1,9 +1,8 @@
-use Rattle.std.proofs.Common.{◌≡◌, ℕ, ◌+◌, ◌≤◌, List, [], length, Some, None, Option, sym, refl, ap, ◌∙◌, ap₂, arith}
+use Rattle.std.proofs.Common.{◌≡◌, Some, None, sym, ap, ◌∙◌, arith}
 use Rattle.cards.specs.Table.{Table}
-use Rattle.cards.specs.Deal.{byte, start_of, trick_of, has, first, first_bad, hand_fault, card_fault, share_fault, suit_fault}
-use Rattle.cards.specs.Faults.{bad_share, bad_suit}
+use Rattle.cards.specs.Deal.{start_of, first, hand_fault, card_fault}
 use Rattle.cards.specs.Parts.{place_in}
-use Rattle.cards.specs.Reading.{accepts, refuses, refuse_at}
+use Rattle.cards.specs.Reading.{accepts, refuses}
 use Rattle.cards.proofs.DealLaws.{start_mono}
 use Rattle.cards.proofs.BoardLaws.{trick_check, Read, hands_four, table_is, suits_same, kept}
 use Rattle.cards.proofs.ReadLaws.{passes, stops, or_else_first, or_else_second}

@@ -1,4 +1,4 @@
-use Rattle.std.proofs.Common.{◌≡◌, ℕ, ◌+◌, length, take, drop, ap, ◌∙◌, arith}
+use Rattle.std.proofs.Common.{◌≡◌, length, take, drop, ap, ◌∙◌, arith}
 use Rattle.cards.specs.Bits.{bit}
 use Rattle.cards.proofs.DealLaws.{part_length, part_at}
 use Rattle.cards.proofs.GatherLaws.{bad, going_none, going_more, going_bad, going_all}

@@ -1,9 +1,9 @@
-use Rattle.std.proofs.Common.{◌≡◌, ℕ, ◌+◌, ◌<◌, ◌≤◌, List, length, get_or, take, drop, set, Some, None, sym, refl, ap, ◌∙◌, subst, arith}
+use Rattle.std.proofs.Common.{◌≡◌, ℕ, ◌+◌, ◌<◌, ◌≤◌, List, length, get_or, Some, None, sym, refl, ap, ◌∙◌, subst, arith}
 use Rattle.std.proofs.lemmas.List.{map-set}
 use Rattle.cards.specs.Bits.{bit}
 use Rattle.cards.specs.Hands.{bits_of}
-use Rattle.cards.specs.Deal.{byte, start_of, cards_of, first, first_bad, hand_fault}
-use Rattle.cards.specs.Parts.{Says, Gathered, Dealt, Starts, place_in}
+use Rattle.cards.specs.Deal.{byte, start_of, first, first_bad, hand_fault}
+use Rattle.cards.specs.Parts.{Gathered, Dealt, Starts, place_in}
 use Rattle.cards.proofs.DealLaws.{within, cards_at, first_none, first_some}
 use Rattle.cards.proofs.GatherLaws.{dealt_none, dealt_more, fault_at}
 use Rattle.cards.proofs.reader.hands_in.Goals as goal

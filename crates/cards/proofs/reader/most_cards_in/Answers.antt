@@ -1,4 +1,4 @@
-use Rattle.std.proofs.Common.{◌≡◌, ℕ, max, sym, refl, ap, ◌∙◌, ap₂, arith}
+use Rattle.std.proofs.Common.{max, sym, refl, ap, ◌∙◌, ap₂, arith}
 use Rattle.cards.specs.Deal.{byte, number_byte, largest}
 use Rattle.cards.proofs.DealLaws.{largest_more}
 use Rattle.cards.proofs.reader.most_cards_in.Goals as goal

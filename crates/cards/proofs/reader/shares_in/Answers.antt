@@ -1,4 +1,4 @@
-use Rattle.std.proofs.Common.{◌≡◌, ℕ, Bool, true, false, List, get_or, Some, None, Option, sym, refl, ap, ◌∙◌, ap₂, arith}
+use Rattle.std.proofs.Common.{◌≡◌, ℕ, Bool, true, false, List, get_or, Some, sym, refl, ap, ◌∙◌, ap₂, arith}
 use Rattle.cards.specs.Deal.{byte, start_of, first, fault, uneven, share}
 use Rattle.cards.proofs.DealLaws.{first_none, first_some}
 use Rattle.cards.proofs.reader.shares_in.Goals as goal

@@ -1,10 +1,7 @@
-use Rattle.std.proofs.Common.{◌≡◌, ℕ, ◌≤◌, sym, ◌∙◌, subst, rules}
-use Rattle.std.proofs.lemmas.Bool.{not-false}
+use Rattle.std.proofs.Common.{ℕ, ◌≤◌, sym, ◌∙◌, subst, rules}
 use Rattle.cards.specs.Seen.{seen, tricks_left}
 use Rattle.cards.proofs.Order.{in_order}
-use Rattle.tricks.specs.Plays.{Takes, Held, Worth}
-use Rattle.worth.specs.Value.{worth_of}
-use Rattle.worth.specs.Answer.{usable}
+use Rattle.tricks.specs.Plays.{Worth}
 use Rattle.worth.proofs.ValueLaws.{value_is_worth, worth_is, worth_low}
 use Rattle.worth.proofs.call.worth.Goals as goal
 

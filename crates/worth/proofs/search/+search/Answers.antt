@@ -1,4 +1,4 @@
-use Rattle.std.proofs.Common.{◌≡◌, ℕ, ◌+◌, ◌*◌, sym, refl, ◌∙◌, ap₂, arith}
+use Rattle.std.proofs.Common.{◌≡◌, ℕ, sym, refl, ◌∙◌, ap₂, arith}
 use Rattle.std.proofs.lemmas.Bool.{eqb-true}
 use Rattle.cards.specs.Table.{pick}
 use Rattle.cards.specs.Bits.{bit}
@@ -8,7 +8,7 @@ use Rattle.worth.specs.Positions.{True}
 use Rattle.worth.specs.Search.{clamp}
 use Rattle.worth.proofs.WindowLaws.{still_open}
 use Rattle.worth.proofs.MoveLaws.{after_under}
-use Rattle.worth.proofs.SearchLaws.{after_falls, after_left, after_window, after_found, exact_worth, SoFar, so_far_none, so_far_skips, so_far_takes, so_far_all, so_far_closed}
+use Rattle.worth.proofs.SearchLaws.{after_falls, after_left, after_window, after_found, exact_worth, so_far_none, so_far_skips, so_far_takes, so_far_all, so_far_closed}
 use Rattle.worth.proofs.search.+search.Goals as goal
 use Rattle.worth.proofs.search.+search.Goals.{Left-suits, else-suits-test, then-suits-test+then-loop-rank-test+in-Some-played_of+then-is_closed-2}
 
