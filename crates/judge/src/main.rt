@@ -3,6 +3,7 @@
 
 use claims::bytes::judge_bytes;
 use console::{lend_keys, lend_worths, most_cards, read_input, show_usage};
+use std::process::ExitCode;
 use text::Shown;
 
 fn run(rt: &HostRuntime, cards: u8) -> anyhow::Result<()> {
@@ -16,12 +17,15 @@ fn run(rt: &HostRuntime, cards: u8) -> anyhow::Result<()> {
     Ok(())
 }
 
-fn main(rt: HostRuntime) -> anyhow::Result<()> {
+fn main(rt: HostRuntime) -> anyhow::Result<ExitCode> {
     match most_cards(&rt) {
-        Ok(cards) => run(&rt, cards),
-        Err(error) => {
+        Ok(cards) => {
+            run(&rt, cards)?;
+            Ok(ExitCode::SUCCESS)
+        }
+        Err(_) => {
             show_usage(&rt, "judge")?;
-            Err(error)
+            Ok(ExitCode::FAILURE)
         }
     }
 }

@@ -6,6 +6,7 @@ use cards::player::Player;
 use claims::bytes::play_bytes;
 use console::{lend_keys, lend_worths, most_cards, read_input, show_usage};
 use referee::row::Play;
+use std::process::ExitCode;
 use text::Shown;
 
 // The lines of the plays; without any there is no line.
@@ -35,12 +36,15 @@ fn run(rt: &HostRuntime, cards: u8) -> anyhow::Result<()> {
     }
 }
 
-fn main(rt: HostRuntime) -> anyhow::Result<()> {
+fn main(rt: HostRuntime) -> anyhow::Result<ExitCode> {
     match most_cards(&rt) {
-        Ok(cards) => run(&rt, cards),
-        Err(error) => {
+        Ok(cards) => {
+            run(&rt, cards)?;
+            Ok(ExitCode::SUCCESS)
+        }
+        Err(_) => {
             show_usage(&rt, "play")?;
-            Err(error)
+            Ok(ExitCode::FAILURE)
         }
     }
 }
