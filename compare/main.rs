@@ -72,7 +72,7 @@ fn compare_one(s: &mut Search, program: &str, of: For, input: &[u8], room: Optio
 
 /// Arguments that are no number from 1 to 8: a line of usage on standard error, nothing on standard output, status 1.
 fn compare_arguments(program: &str) {
-    let wrong: [&[&str]; 12] = [&["5", "5"], &["05"], &["+5"], &["0"], &["9"], &["10"], &["-1"], &["x"], &[""], &["5x"], &["256"], &["257"]];
+    let wrong: [&[&str]; 12] = [&["5", "5"], &["00"], &["+9"], &["0"], &["9"], &["10"], &["-1"], &["x"], &[""], &["5x"], &["256"], &["257"]];
     for args in wrong {
         let args: Vec<String> = args.iter().map(|a| a.to_string()).collect();
         let got = run(program, &args, &[]);
@@ -82,6 +82,13 @@ fn compare_arguments(program: &str) {
         }
     }
     println!("  {} wrong arguments", wrong.len());
+    // Zeros and a plus may stand before the digit.
+    for word in ["5", "05", "+5"] {
+        let got = run(program, &[word.to_string()], &[]);
+        if got.out != b"refused 3 at 0\n" || got.status != Some(0) || !got.err.is_empty() {
+            differ(program, &[word.to_string()], &[], "refused 3 at 0", &got);
+        }
+    }
 }
 
 /// Inputs of each size in cards, for each program, at 100 percent.
