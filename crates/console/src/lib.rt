@@ -39,13 +39,11 @@ pub fn most_cards(rt: &HostRuntime) -> anyhow::Result<u8>
     }
 }
 
-// All of standard input. If nothing can be read of it, as where it is closed, that is no byte.
+// All of standard input.
 pub fn read_input(rt: &HostRuntime) -> anyhow::Result<Vec<u8>> {
     let mut input = Vec::new(rt.alloc());
-    match rt.stdin().read_to_end(&mut input) {
-        Err(error) if !input.is_empty() => Err(error.into()),
-        _ => Ok(input),
-    }
+    rt.stdin().read_to_end(&mut input)?;
+    Ok(input)
 }
 
 // The keys of the slots for tables of so many cards in a hand. Without memory there is no slot, and the refusal says so.
