@@ -15,12 +15,11 @@ use crate::advice::advice_under;
 use crate::claim::Claim;
 use crate::failing::failing_under;
 use crate::tried::nth_card;
-use crate::turns::{is_same, is_turn_of};
 use cards::board::Board;
 use cards::card::Card;
 use cards::player::{Player, Side};
 use tricks::play::play;
-use tricks::turn::tricks_left;
+use tricks::turn::{tricks_left, turn};
 
 // A card of the side that claims, and the other side's card at its next turn, if it has one.
 #[derive(Clone, Copy)]
@@ -40,14 +39,17 @@ pub(crate) struct Row {
 fn is_claimer(claim: Claim, side: Side) -> bool
     ensures { result ≡ is_own (claims_side claim) (side_number side == 0) }
 {
-    is_same(claim.side(), side)
+    match side {
+        Side::Ours => matches!(claim, Claim::Ours(_)),
+        Side::Others => matches!(claim, Claim::Others(_)),
+    }
 }
 
 // Whether the side that claims is to play.
 pub(crate) fn is_claimers_turn(claim: Claim, board: &Board) -> bool
     ensures { result ≡ own_turn (claims_side claim) (seen board.now) }
 {
-    is_turn_of(claim.side(), board)
+    is_claimer(claim, turn(board).side())
 }
 
 // The tricks of its claim that a side has once this player took a trick: one or none.
