@@ -16,11 +16,12 @@ use Rattle.cards.specs.declared.player.Player.{Player}
 use Rattle.cards.proofs.BitLaws.{bit_zero}
 use Rattle.cards.proofs.DealOrder.{trick_long, trick_at, trick_low, deal_in_order}
 
--- the check of the trick, by the set of no cards that the code begins with
-pub trick_check : (bs : List ℕ) (empty played : ℕ) (o : Option ℕ) → ((x : ℕ) → bit empty x ≡ false) → played ≡ byte bs 2 →
-    first_bad (bit empty) 3 (take played (drop 3 bs)) ≡ o → first_bad (has []) 3 (trick_of bs) ≡ o
+-- the check of the trick, by the cards and the set of no cards that the code begins with
+pub trick_check : (bs cs : List ℕ) (empty played : ℕ) (o : Option ℕ) → cs ≡ take played (drop 3 bs) → ((x : ℕ) → bit empty x ≡ false) → played ≡ byte bs 2 →
+    first_bad (bit empty) 3 cs ≡ o → first_bad (has []) 3 (trick_of bs) ≡ o
 unfolding has
-trick_check bs empty played o none e h = ap₂ (λ (s : ℕ → Bool) (n : ℕ). first_bad s 3 (take n (drop 3 bs))) (sym (fun_ext none)) (sym e) ∙ h
+trick_check bs cs empty played o are none e h =
+    ap₂ (λ (s : ℕ → Bool) (n : ℕ). first_bad s 3 (take n (drop 3 bs))) (sym (fun_ext none)) (sym e) ∙ ap (first_bad (bit empty) 3) (sym are) ∙ h
 
 first_same : (f g : ℕ → Option ℕ) (n : ℕ) → ((i : ℕ) → i < n → f i ≡ g i) → first f n ≡ first g n
 unfolding first

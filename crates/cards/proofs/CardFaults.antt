@@ -145,8 +145,8 @@ finds_hand bs k l =
     placed q (inl t) = inl t
     placed q (inr c) = inr (c.0, omega arith, c.2)
 
-pub finds_card : (bs : List ℕ) (room : Room) → Finds (Fault bs room bad_card) (card_fault bs)
-finds_card bs room =
+pub finds_card : (n : ℕ) (bs : List ℕ) (room : Room) → Finds (Fault n bs room bad_card) (card_fault bs)
+finds_card n bs room =
     finds_same
     (λ p h. elim h [ inl t ↦ (inl t.0, t.1) | inr c ↦ (inr (c.0, c.1, c.2.0), c.2.1) ])
     (λ p h. elim h.0 [ inl t ↦ inl (t, h.1) | inr c ↦ inr (c.0, c.1, (c.2, h.1)) ])

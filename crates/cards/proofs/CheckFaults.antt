@@ -5,8 +5,8 @@ use Rattle.std.proofs.lemmas.List.{get_or_past}
 use Rattle.std.proofs.lemmas.Bool.Decides.{Decides-like, Decides-not, Decides-and, Decides-or, Decides-eqb, Decides-ltb, Decides-below_or}
 use Rattle.cards.specs.Table.{deck, suit, most_tricks, has_suit}
 use Rattle.cards.specs.Deal.{byte, start_of, number_byte, cards_of, has, largest, most_cards, share, revokes}
-use Rattle.cards.specs.Faults.{Check, bad_trump, bad_lead, no_room, cut_short, bad_card, bad_share, bad_suit, SomeNumber, HandCard, Fault, FaultBefore}
-use Rattle.cards.specs.Reading.{found, found_before}
+use Rattle.cards.specs.Faults.{Check, bad_trump, bad_lead, no_room, cut_short, bad_card, bad_share, bad_suit, SomeNumber, HandCard, Fault}
+use Rattle.cards.specs.Reading.{found}
 use Rattle.cards.specs.declared.room.Room.{Room}
 use Rattle.cards.proofs.Finds.{Finds, finds_same, finds_fault, finds_or, finds_first}
 use Rattle.cards.proofs.DealLaws.{start_next, start_mono}
@@ -47,16 +47,16 @@ decides_number bs P b some more =
     (a.0, a.1, number_there bs a.0 (omega (arith, some (most_cards bs) h)), subst P (sym a.2) h))
     (λ h. more (number_byte bs h.0) (most_cards bs) (largest_above (number_byte bs) 4 h.0 h.1) h.3)
 
-finds_room : (bs : List ℕ) (room : Room) → Finds (Fault bs room no_room) (found bs room no_room)
-finds_room bs room =
+finds_room : (n : ℕ) (bs : List ℕ) (room : Room) → Finds (Fault n bs room no_room) (found n bs room no_room)
+finds_room n bs room =
     finds_or _ _ (λ p q a b. elim b [ inl h ↦ omega arith | inr h ↦ omega arith ])
-    (finds_fault _ 0 (decides_number bs (λ n. room.cards < n) _ (λ n h. omega arith) (λ m n l h. omega arith) (Decides-ltb room.cards (most_cards bs))))
+    (finds_fault _ 0 (decides_number bs (λ m. room.cards < m) _ (λ m h. omega arith) (λ i j l h. omega arith) (Decides-ltb room.cards (most_cards bs))))
     (finds_or _ _ (λ p q a b. omega arith)
-    (finds_fault _ 1 (decides_number bs (λ n. room.plays < 4 * n) _ (λ n h. omega arith) (λ m n l h. omega arith) (Decides-ltb room.plays (4 * most_cards bs))))
+    (finds_fault _ 1 (decides_number bs (λ m. room.plays < 4 * m) _ (λ m h. omega arith) (λ i j l h. omega arith) (Decides-ltb room.plays (4 * most_cards bs))))
     (finds_fault _ 2 (Decides-or _ _ (Decides-eqb room.positions 0) (Decides-not _ (Decides-eqb room.positions room.worths)))))
 
-finds_share : (bs : List ℕ) (room : Room) → Finds (Fault bs room bad_share) (found bs room bad_share)
-finds_share bs room =
+finds_share : (n : ℕ) (bs : List ℕ) (room : Room) → Finds (Fault n bs room bad_share) (found n bs room bad_share)
+finds_share n bs room =
     finds_same (λ p h. (h.0, h.1, h.2.0, h.2.1)) (λ p h. (h.0, h.1, (h.2, h.3)))
     (finds_first Uneven _ 4
     (λ j k p q l a b. omega (arith, start_next bs j, start_mono bs (suc j) k (omega arith)))
@@ -80,8 +80,8 @@ decides_suit bs k s =
     (Decides-below_or (λ c. has (cards_of bs k) c && eqb (suit c) s) _ (has_suit (has (cards_of bs k)) s)
     (λ c. Decides-and _ _ (decides_cards bs k c) (Decides-eqb (suit c) s)) refl (λ _. refl) deck)
 
-finds_suit : (bs : List ℕ) (room : Room) → Finds (Fault bs room bad_suit) (found bs room bad_suit)
-finds_suit bs room =
+finds_suit : (n : ℕ) (bs : List ℕ) (room : Room) → Finds (Fault n bs room bad_suit) (found n bs room bad_suit)
+finds_suit n bs room =
     finds_same
     (λ p h. (h.0, h.1, h.2.0, subst (λ (r : ℕ). suit (byte bs r) ≡ suit (byte bs 3) → ⊥) (sym h.2.0) h.2.1.0, h.2.1.1))
     (λ p h. (h.0, h.1, (h.2, (subst (λ (r : ℕ). suit (byte bs r) ≡ suit (byte bs 3) → ⊥) h.2 h.3, h.4))))
@@ -93,21 +93,11 @@ finds_suit bs room =
     Revokes : ℕ → ℕ → Type 0
     Revokes i p = (p ≡ 3 + i) × ((suit (byte bs (3 + i)) ≡ suit (byte bs 3) → ⊥) × HasSuit bs ((byte bs 1 + i) % 4) (suit (byte bs 3)))
 
-pub finds_faults : (bs : List ℕ) (room : Room) (k : Check) → Finds (Fault bs room k) (found bs room k)
-finds_faults bs room bad_trump = finds_fault _ 0 (Decides-ltb 4 (byte bs 0))
-finds_faults bs room bad_lead = finds_or _ _ (λ p q a b. omega arith) (finds_fault _ 1 (Decides-ltb 3 (byte bs 1))) (finds_fault _ 2 (Decides-ltb 3 (byte bs 2)))
-finds_faults bs room no_room = finds_room bs room
-finds_faults bs room cut_short = finds_fault _ (length bs) (Decides-ltb (length bs) (start_of bs 4))
-finds_faults bs room bad_card = finds_card bs room
-finds_faults bs room bad_share = finds_share bs room
-finds_faults bs room bad_suit = finds_suit bs room
-
--- the same where n bytes have to follow the deal
-pub finds_faults_before : (n : ℕ) (bs : List ℕ) (room : Room) (k : Check) → Finds (FaultBefore n bs room k) (found_before n bs room k)
-finds_faults_before n bs room bad_trump = finds_faults bs room bad_trump
-finds_faults_before n bs room bad_lead = finds_faults bs room bad_lead
-finds_faults_before n bs room no_room = finds_faults bs room no_room
-finds_faults_before n bs room cut_short = finds_fault _ (length bs) (Decides-ltb (length bs) (start_of bs 4 + n))
-finds_faults_before n bs room bad_card = finds_faults bs room bad_card
-finds_faults_before n bs room bad_share = finds_faults bs room bad_share
-finds_faults_before n bs room bad_suit = finds_faults bs room bad_suit
+pub finds_faults : (n : ℕ) (bs : List ℕ) (room : Room) (k : Check) → Finds (Fault n bs room k) (found n bs room k)
+finds_faults n bs room bad_trump = finds_fault _ 0 (Decides-ltb 4 (byte bs 0))
+finds_faults n bs room bad_lead = finds_or _ _ (λ p q a b. omega arith) (finds_fault _ 1 (Decides-ltb 3 (byte bs 1))) (finds_fault _ 2 (Decides-ltb 3 (byte bs 2)))
+finds_faults n bs room no_room = finds_room n bs room
+finds_faults n bs room cut_short = finds_fault _ (length bs) (Decides-ltb (length bs) (start_of bs 4 + n))
+finds_faults n bs room bad_card = finds_card n bs room
+finds_faults n bs room bad_share = finds_share n bs room
+finds_faults n bs room bad_suit = finds_suit n bs room

@@ -26,12 +26,12 @@ module _ (bs : List ℕ) (cards : card_fault bs ≡ None) where
   good_card : (p : ℕ) → CardPlace bs p → byte bs p < deck
   good_card p h = elim (cases_lt (byte bs p) deck) [
     | inl l ↦ l
-    | inr l ↦ absurd ((finds_card bs some_room).none cards p (h, inl l))
+    | inr l ↦ absurd ((finds_card 0 bs some_room).none cards p (h, inl l))
   ]
 
   -- the same card does not stand in two places
   once_only : (q p : ℕ) → CardPlace bs q → CardPlace bs p → q < p → byte bs q ≡ byte bs p → ⊥
-  once_only q p hq hp l e = (finds_card bs some_room).none cards p (hp, inr (q, l, hq, e))
+  once_only q p hq hp l e = (finds_card 0 bs some_room).none cards p (hp, inr (q, l, hq, e))
 
   module _ (few : byte bs 2 ≤ 3) (whole : start_of bs 4 ≤ length bs) where
     trick_place : (i : ℕ) → i < byte bs 2 → TrickCard bs (3 + i)

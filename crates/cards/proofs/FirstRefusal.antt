@@ -1,11 +1,11 @@
 -- The reader's answer refuses by the first check that fails, at its first place, and takes what passes all. Assumes nothing.
 use Rattle.std.proofs.Common.{◌≡◌, ℕ, zero, suc, ◌<◌, ◌⊎◌, List, [], ◌∷◌, Some, None, Option, sym, refl, ap, ◌∙◌, subst, inl, inr, arith}
 use Rattle.std.proofs.lemmas.Bool.{cases_order, cases_eq}
-use Rattle.cards.specs.Faults.{Check, bad_trump, bad_lead, no_room, cut_short, bad_card, bad_share, bad_suit, order, number, Fault, FaultBefore, FirstOf}
-use Rattle.cards.specs.Reading.{Right, RightOf, refuses, refuse_at, found, found_before, run_by, checks, reading, reading_before}
+use Rattle.cards.specs.Faults.{Check, bad_trump, bad_lead, no_room, cut_short, bad_card, bad_share, bad_suit, order, number, Fault, FirstOf}
+use Rattle.cards.specs.Reading.{Right, RightOf, refuses, refuse_at, found, run_by, checks, reading}
 use Rattle.cards.specs.declared.room.Room.{Room}
 use Rattle.cards.proofs.Finds.{Finds}
-use Rattle.cards.proofs.CheckFaults.{finds_faults, finds_faults_before}
+use Rattle.cards.proofs.CheckFaults.{finds_faults}
 
 -- the check of an order
 at_order : ℕ → Check
@@ -107,8 +107,5 @@ module _ (bs : List ℕ) (F : Check → ℕ → Type 0) (find : Check → Option
   checks_right : RightOf F bs (run_by find bs checks)
   checks_right = run_right checks 0 (refl, (refl, (refl, (refl, (refl, (refl, (refl, refl))))))) (λ j q l. absurd (omega arith))
 
-pub reading_right : (bs : List ℕ) (room : Room) → Right bs room (reading bs room)
-reading_right bs room = checks_right bs (Fault bs room) (found bs room) (finds_faults bs room)
-
-pub reading_before_right : (n : ℕ) (bs : List ℕ) (room : Room) → RightOf (FaultBefore n bs room) bs (reading_before n bs room)
-reading_before_right n bs room = checks_right bs (FaultBefore n bs room) (found_before n bs room) (finds_faults_before n bs room)
+pub reading_right : (n : ℕ) (bs : List ℕ) (room : Room) → Right n bs room (reading n bs room)
+reading_right n bs room = checks_right bs (Fault n bs room) (found n bs room) (finds_faults n bs room)

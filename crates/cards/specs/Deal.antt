@@ -78,13 +78,9 @@ lacks room n =
     (or_else (fault (nat_lt room.plays (4 * n)) 1)
     (fault (room.positions == 0 || not (room.positions == room.worths)) 2))
 
--- the deal ends before four hands are whole
-abbrev pub end_fault : List ℕ → Option ℕ
-end_fault bs = fault (nat_lt (length bs) (start_of bs 4)) (length bs)
-
--- or before n bytes follow them
-abbrev pub end_fault_before : ℕ → List ℕ → Option ℕ
-end_fault_before n bs = fault (nat_lt (length bs) (start_of bs 4 + n)) (length bs)
+-- the deal ends before four hands are whole, or before the n bytes that have to follow them
+abbrev pub end_fault : ℕ → List ℕ → Option ℕ
+end_fault n bs = fault (nat_lt (length bs) (start_of bs 4 + n)) (length bs)
 
 -- of cards that stand from place i on, after those of the set old: the first that is none, or that was there before
 unfoldable pub first_bad : (ℕ → Bool) → ℕ → List ℕ → Option ℕ

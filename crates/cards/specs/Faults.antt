@@ -49,31 +49,21 @@ HandCard bs q p = (start_of bs q < p) × (p < start_of bs (suc q)) × (p < lengt
 abbrev pub CardPlace : List ℕ → ℕ → Type 0
 CardPlace bs p = TrickCard bs p ⊎ ((q : ℕ) × (q < 4) × HandCard bs q p)
 
--- what is wrong at place p, for each check by itself
-abbrev pub Fault : List ℕ → Room → Check → ℕ → Type 0
-Fault bs room bad_trump p = (p ≡ 0) × (4 < byte bs 0)
-Fault bs room bad_lead p = ((p ≡ 1) × (3 < byte bs 1)) ⊎ ((p ≡ 2) × (3 < byte bs 2))
-Fault bs room no_room p =
-    ((p ≡ 0) × SomeNumber bs (λ n. room.cards < n))
-    ⊎ (((p ≡ 1) × SomeNumber bs (λ n. room.plays < 4 * n))
+-- what is wrong at place p, for each check by itself, with a deal that n bytes have to follow
+abbrev pub Fault : ℕ → List ℕ → Room → Check → ℕ → Type 0
+Fault n bs room bad_trump p = (p ≡ 0) × (4 < byte bs 0)
+Fault n bs room bad_lead p = ((p ≡ 1) × (3 < byte bs 1)) ⊎ ((p ≡ 2) × (3 < byte bs 2))
+Fault n bs room no_room p =
+    ((p ≡ 0) × SomeNumber bs (λ m. room.cards < m))
+    ⊎ (((p ≡ 1) × SomeNumber bs (λ m. room.plays < 4 * m))
     ⊎ ((p ≡ 2) × ((room.positions ≡ 0) ⊎ (room.positions ≢ room.worths))))
-Fault bs room cut_short p = (p ≡ length bs) × (length bs < start_of bs 4)
-Fault bs room bad_card p = CardPlace bs p × ((deck ≤ byte bs p) ⊎ ((q : ℕ) × (q < p) × CardPlace bs q × (byte bs q ≡ byte bs p)))
-Fault bs room bad_share p =
+Fault n bs room cut_short p = (p ≡ length bs) × (length bs < start_of bs 4 + n)
+Fault n bs room bad_card p = CardPlace bs p × ((deck ≤ byte bs p) ⊎ ((q : ℕ) × (q < p) × CardPlace bs q × (byte bs q ≡ byte bs p)))
+Fault n bs room bad_share p =
     (q : ℕ) × (q < 4) × (p ≡ start_of bs q) × ((share bs q ≢ share bs (byte bs 1)) ⊎ ((share bs q ≡ 0) ⊎ (most_tricks < share bs q)))
-Fault bs room bad_suit p =
+Fault n bs room bad_suit p =
     (i : ℕ) × (i < byte bs 2) × (p ≡ 3 + i) × (suit (byte bs p) ≢ suit (byte bs 3))
     × ((r : ℕ) × HandCard bs ((byte bs 1 + i) % 4) r × (byte bs r < deck) × (suit (byte bs r) ≡ suit (byte bs 3)))
-
--- the same of a deal that n bytes have to follow: it also ends too early where fewer do
-abbrev pub FaultBefore : ℕ → List ℕ → Room → Check → ℕ → Type 0
-FaultBefore n bs room bad_trump p = Fault bs room bad_trump p
-FaultBefore n bs room bad_lead p = Fault bs room bad_lead p
-FaultBefore n bs room no_room p = Fault bs room no_room p
-FaultBefore n bs room cut_short p = (p ≡ length bs) × (length bs < start_of bs 4 + n)
-FaultBefore n bs room bad_card p = Fault bs room bad_card p
-FaultBefore n bs room bad_share p = Fault bs room bad_share p
-FaultBefore n bs room bad_suit p = Fault bs room bad_suit p
 
 -- of faults F, by check and place, the one that applies first: the check fails at p, at no earlier place, and no earlier check fails anywhere
 pub record FirstOf (F : Check → ℕ → Type 0) (k : Check) (p : ℕ) : Type 0 where
@@ -82,5 +72,5 @@ pub record FirstOf (F : Check → ℕ → Type 0) (k : Check) (p : ℕ) : Type 0
   pub earlier : (j : Check) (q : ℕ) → order j < order k → F j q → ⊥
 
 -- the refusal of a deal that applies first
-abbrev pub First : List ℕ → Room → Check → ℕ → Type 0
-First bs room k p = FirstOf (Fault bs room) k p
+abbrev pub First : ℕ → List ℕ → Room → Check → ℕ → Type 0
+First n bs room k p = FirstOf (Fault n bs room) k p

@@ -1,25 +1,21 @@
 -- What the parts of the reader hand on. Assumes nothing: these are definitions.
-use Rattle.std.specs.Prelude.{◌≡◌, ℕ, ◌<◌, List, length, Some, None, Option, slice_index}
+use Rattle.std.specs.Prelude.{◌≡◌, ℕ, ◌<◌, List, length, Some, None, Option, Ok, Err, Result, slice_index}
 use Rattle.cards.specs.Table.{deck, count}
 use Rattle.cards.specs.Bits.{bit}
 use Rattle.cards.specs.Deal.{start_of, number_byte, cards_of, before, has}
-use Rattle.cards.specs.declared.reader.Checked.{Checked}
-use Rattle.cards.specs.declared.reader.Checked.TheVariants.{Good, At}
+use Rattle.cards.specs.Refusals.{number_of, place_of, lent_place}
+use Rattle.cards.specs.declared.refusal.Refusal.{Refusal}
+use Rattle.cards.specs.declared.refusal.Lent.{Lent}
 
--- a check's answer: what it hands on, where it found no fault, or the place of the first
-abbrev pub Says : {X : Type 0} → Checked X → Option ℕ → (X → Type 0) → Type 0
-Says (Good x) o P = (o ≡ None) × P x
-Says (At p) o P = o ≡ Some p
+-- the answer of the check by number n: what it hands on, where it found no fault, or its refusal at the place of the first
+abbrev pub Says : {X : Type 0} → ℕ → Result X Refusal → Option ℕ → (X → Type 0) → Type 0
+Says n (Ok x) o P = (o ≡ None) × P x
+Says n (Err e) o P = (number_of e ≡ n) × (o ≡ Some (place_of e))
 
--- the place that is told
-abbrev pub place_in : {X : Type 0} → Checked X → ℕ
-place_in (Good x) = 0
-place_in (At p) = p
-
--- the places of the four number bytes, and the place after the deal
-pub record Starts (bs starts : List ℕ) : Type 0 where
-  pub five : length starts ≡ 5
-  pub at : (p : ℕ) → p < 5 → slice_index starts p ≡ start_of bs p
+-- the place of what is too short, if something is
+abbrev pub short : {X : Type 0} → Result X Lent → Option ℕ
+short (Ok x) = None
+short (Err l) = Some (lent_place l)
 
 -- a set of cards is those of a list, each once
 pub record Gathered (cs : List ℕ) (set : ℕ) : Type 0 where

@@ -1,7 +1,7 @@
 -- The reader's answer, by the checks in their order. Assumes nothing: these are definitions.
 use Rattle.std.specs.Prelude.{◌≡◌, ℕ, List, [], ◌∷◌, Some, None, Option}
 use Rattle.cards.specs.Table.{Table}
-use Rattle.cards.specs.Deal.{start_of, table_in, trump_fault, lead_fault, most_cards, lacks, end_fault, end_fault_before, card_fault, share_fault, suit_fault}
+use Rattle.cards.specs.Deal.{start_of, table_in, trump_fault, lead_fault, most_cards, lacks, end_fault, card_fault, share_fault, suit_fault}
 use Rattle.cards.specs.Faults.{Check, bad_trump, bad_lead, no_room, cut_short, bad_card, bad_share, bad_suit, number, Fault, FirstOf}
 use Rattle.cards.specs.declared.room.Room.{Room}
 
@@ -10,25 +10,15 @@ pub data Outcome : Type 0 where
   accepts : Table → ℕ → Outcome
   refuses : ℕ → ℕ → Outcome
 
--- where a check fails first, if it does
-abbrev pub found : List ℕ → Room → Check → Option ℕ
-found bs room bad_trump = trump_fault bs
-found bs room bad_lead = lead_fault bs
-found bs room no_room = lacks room (most_cards bs)
-found bs room cut_short = end_fault bs
-found bs room bad_card = card_fault bs
-found bs room bad_share = share_fault bs
-found bs room bad_suit = suit_fault bs
-
--- the same where n bytes have to follow the deal
-abbrev pub found_before : ℕ → List ℕ → Room → Check → Option ℕ
-found_before n bs room bad_trump = found bs room bad_trump
-found_before n bs room bad_lead = found bs room bad_lead
-found_before n bs room no_room = found bs room no_room
-found_before n bs room cut_short = end_fault_before n bs
-found_before n bs room bad_card = found bs room bad_card
-found_before n bs room bad_share = found bs room bad_share
-found_before n bs room bad_suit = found bs room bad_suit
+-- where a check fails first, if it does, of a deal that n bytes have to follow
+abbrev pub found : ℕ → List ℕ → Room → Check → Option ℕ
+found n bs room bad_trump = trump_fault bs
+found n bs room bad_lead = lead_fault bs
+found n bs room no_room = lacks room (most_cards bs)
+found n bs room cut_short = end_fault n bs
+found n bs room bad_card = card_fault bs
+found n bs room bad_share = share_fault bs
+found n bs room bad_suit = suit_fault bs
 
 -- a refusal where a check found a fault, else what the later checks say
 abbrev pub refuse_at : Option ℕ → ℕ → Outcome → Outcome
@@ -40,19 +30,15 @@ abbrev pub run_by : (Check → Option ℕ) → List ℕ → List Check → Outco
 run_by find bs [] = accepts (table_in bs) (start_of bs 4)
 run_by find bs (k ∷ ks) = refuse_at (find k) (number k) (run_by find bs ks)
 
-abbrev pub run : List ℕ → Room → List Check → Outcome
-run bs room ks = run_by (found bs room) bs ks
+abbrev pub run : ℕ → List ℕ → Room → List Check → Outcome
+run n bs room ks = run_by (found n bs room) bs ks
 
 -- all checks
 abbrev pub checks : List Check
 checks = bad_trump ∷ bad_lead ∷ no_room ∷ cut_short ∷ bad_card ∷ bad_share ∷ bad_suit ∷ []
 
-abbrev pub reading : List ℕ → Room → Outcome
-reading bs room = run bs room checks
-
--- the same where n bytes have to follow the deal
-abbrev pub reading_before : ℕ → List ℕ → Room → Outcome
-reading_before n bs room = run_by (found_before n bs room) bs checks
+abbrev pub reading : ℕ → List ℕ → Room → Outcome
+reading n bs room = run n bs room checks
 
 -- of faults F, by check and place, an answer is right: it refuses with n at p exactly if the check of that number is the first that fails, and p the
 -- first place where it does; it takes the deal exactly if no check fails anywhere, and then as the table that the bytes say
@@ -63,5 +49,5 @@ pub record RightOf (F : Check → ℕ → Type 0) (bs : List ℕ) (o : Outcome) 
   pub takes : ((k : Check) (p : ℕ) → F k p → ⊥) → o ≡ accepts (table_in bs) (start_of bs 4)
 
 -- the right answer to a deal
-abbrev pub Right : List ℕ → Room → Outcome → Type 0
-Right bs room o = RightOf (Fault bs room) bs o
+abbrev pub Right : ℕ → List ℕ → Room → Outcome → Type 0
+Right n bs room o = RightOf (Fault n bs room) bs o

@@ -1,9 +1,9 @@
 // Cards: a suit and a rank each, 52 in all.
-ghost use Rattle.std.specs.Prelude.{◌≡◌, ◌+◌, ◌*◌, ◌<◌, ◌≤◌, MatchOption, ◌==◌};
+ghost use Rattle.std.specs.Prelude.{◌≡◌, ◌+◌, ◌*◌, ◌<◌, ◌≤◌, MatchResult, ◌==◌};
 ghost use Rattle.cards.specs.Table.{deck, suit as suit_of, rank as rank_of};
 ghost use Rattle.cards.specs.Numbers.{suit_number, trump_number};
 
-#[derive(Clone, Copy)]
+#[derive(Clone, Copy, PartialEq, Eq)]
 pub enum Suit {
     Clubs,
     Diamonds,
@@ -12,7 +12,7 @@ pub enum Suit {
 }
 
 // 0 for the two, 12 for the ace.
-#[derive(Clone, Copy)]
+#[derive(Clone, Copy, PartialEq, Eq, PartialOrd, Ord)]
 pub struct Rank {
     pub number: u8,
     ghost low: { number < 13 },
@@ -39,31 +39,25 @@ pub fn card_number(suit: u8, rank: u8) -> u16
     13 * suit as u16 + rank as u16
 }
 
-impl Suit {
-    fn number(self) -> u8
-        ensures { result ≡ suit_number self }
-    {
-        match self {
-            Suit::Clubs => 0,
-            Suit::Diamonds => 1,
-            Suit::Hearts => 2,
-            Suit::Spades => 3,
+// A number that no card, trump, player or side goes by.
+#[derive(Clone, Copy)]
+pub struct OutOfRange;
+
+impl TryFrom<u8> for Card {
+    type Error = OutOfRange;
+
+    ghost try_from_gives = { λ number r. MatchResult r (λ c. c.number ≡ number) (λ _. deck ≤ number) };
+
+    fn try_from(number: u8) -> Result<Self, OutOfRange> {
+        if number < 52 {
+            Ok(Card { number })
+        } else {
+            Err(OutOfRange)
         }
     }
 }
 
 impl Card {
-    // The card of a number, if there is one.
-    pub fn from_number(number: u8) -> Option<Card>
-        ensures { MatchOption result (deck ≤ number) (λ c. c.number ≡ number) }
-    {
-        if number < 52 {
-            Some(Card { number })
-        } else {
-            None
-        }
-    }
-
     pub fn suit(self) -> Suit
         ensures { suit_number result ≡ suit_of self.number }
     {
@@ -86,22 +80,24 @@ impl Card {
     pub fn is_of(self, suit: Suit) -> bool
         ensures { result ≡ (suit_of self.number == suit_number suit) }
     {
-        self.number / 13 == suit.number()
+        self.suit() == suit
     }
 }
 
-impl Trump {
-    // What a number says of trump: a suit, or 4 for none.
-    pub fn from_number(number: u8) -> Option<Trump>
-        ensures { MatchOption result (4 < number) (λ t. trump_number t ≡ number) }
-    {
+// A suit by its number, or 4 for none.
+impl TryFrom<u8> for Trump {
+    type Error = OutOfRange;
+
+    ghost try_from_gives = { λ number r. MatchResult r (λ t. trump_number t ≡ number) (λ _. 4 < number) };
+
+    fn try_from(number: u8) -> Result<Self, OutOfRange> {
         match number {
-            0 => Some(Trump::Of(Suit::Clubs)),
-            1 => Some(Trump::Of(Suit::Diamonds)),
-            2 => Some(Trump::Of(Suit::Hearts)),
-            3 => Some(Trump::Of(Suit::Spades)),
-            4 => Some(Trump::NoTrump),
-            _ => None,
+            0 => Ok(Trump::Of(Suit::Clubs)),
+            1 => Ok(Trump::Of(Suit::Diamonds)),
+            2 => Ok(Trump::Of(Suit::Hearts)),
+            3 => Ok(Trump::Of(Suit::Spades)),
+            4 => Ok(Trump::NoTrump),
+            _ => Err(OutOfRange),
         }
     }
 }

@@ -5,6 +5,7 @@ pub mod board;
 pub mod card;
 pub mod deal;
 pub mod hand;
+mod layout;
 pub mod player;
 pub mod reader;
 pub mod refusal;

@@ -1,6 +1,8 @@
 // The four players and the two sides.
-ghost use Rattle.std.specs.Prelude.{◌≡◌, ◌+◌, ◌%◌, ◌<◌, ◌≤◌, MatchOption};
+ghost use Rattle.std.specs.Prelude.{◌≡◌, ◌+◌, ◌%◌, ◌<◌, ◌≤◌, MatchResult};
 ghost use Rattle.cards.specs.Numbers.{side_number};
+
+use crate::card::OutOfRange;
 
 // They sit round, from 0 to 3.
 #[derive(Clone, Copy)]
@@ -10,24 +12,42 @@ pub struct Player {
 }
 
 // Ours is players 0 and 2, the others are 1 and 3.
-#[derive(Clone, Copy)]
+#[derive(Clone, Copy, PartialEq, Eq)]
 pub enum Side {
     Ours,
     Others,
 }
 
-impl Player {
-    // The player of a seat, if there is one.
-    pub fn from_seat(seat: u8) -> Option<Player>
-        ensures { MatchOption result (4 ≤ seat) (λ p. p.seat ≡ seat) }
-    {
+impl TryFrom<u8> for Player {
+    type Error = OutOfRange;
+
+    ghost try_from_gives = { λ seat r. MatchResult r (λ p. p.seat ≡ seat) (λ _. 4 ≤ seat) };
+
+    fn try_from(seat: u8) -> Result<Self, OutOfRange> {
         if seat < 4 {
-            Some(Player { seat })
+            Ok(Player { seat })
         } else {
-            None
+            Err(OutOfRange)
         }
     }
+}
 
+// 0 for ours, 1 for the others.
+impl TryFrom<u8> for Side {
+    type Error = OutOfRange;
+
+    ghost try_from_gives = { λ number r. MatchResult r (λ s. side_number s ≡ number) (λ _. 1 < number) };
+
+    fn try_from(number: u8) -> Result<Self, OutOfRange> {
+        match number {
+            0 => Ok(Side::Ours),
+            1 => Ok(Side::Others),
+            _ => Err(OutOfRange),
+        }
+    }
+}
+
+impl Player {
     // Who sits so many seats further round.
     pub fn ahead(self, seats: u8) -> Player
         ensures { result.seat ≡ (self.seat + seats) % 4 }

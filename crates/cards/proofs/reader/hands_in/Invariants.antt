@@ -5,4 +5,4 @@ use Rattle.cards.specs.Parts.{Dealt}
 use Rattle.cards.proofs.reader.hands_in.Given as goal
 
 abbrev pub invariant-loop-p : goal.invariant-loop-p
-invariant-loop-p l = (first (hand_fault l.bytes) l.p ≡ None) × Dealt l.bytes l.p (bits_of l.hands) l.taken.bits
+invariant-loop-p l = (first (hand_fault l.layout.bytes.now) l.p ≡ None) × Dealt l.layout.bytes.now l.p (bits_of l.hands) l.taken.bits

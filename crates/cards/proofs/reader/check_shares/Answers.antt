@@ -1,7 +1,7 @@
-use Rattle.std.proofs.Common.{◌≡◌, ℕ, Bool, true, false, List, get_or, Some, sym, refl, ap, ◌∙◌, ap₂, arith}
+use Rattle.std.proofs.Common.{◌≡◌, ℕ, Bool, true, false, List, Some, sym, refl, ap, ◌∙◌, ap₂, arith}
 use Rattle.cards.specs.Deal.{byte, start_of, first, fault, uneven, share}
 use Rattle.cards.proofs.DealLaws.{first_none, first_some}
-use Rattle.cards.proofs.reader.shares_in.Goals as goal
+use Rattle.cards.proofs.reader.check_shares.Goals as goal
 
 -- the fault of a player's share, by the numbers that the code has for it
 share_is : (bs : List ℕ) (p seat own each : ℕ) (b : Bool) → own ≡ share bs p → each ≡ share bs seat → seat ≡ byte bs 1 → b ≡ uneven own each →
@@ -15,15 +15,18 @@ loop-p-init c = refl
 
 pub returns-then-is_uneven : goal.returns-then-is_uneven
 returns-then-is_uneven c =
-    let bs = c.args.bytes.now in
-    let p = c.loop-p.p in
-    first_some _ 4 p (get_or c.args.starts p 0) c.loop-p-test.true c.loop-p.invariant
-    (share_is bs p _ _ _ true c.share_in.ensures c.share_in-each.ensures c.requires.leader c.if-is_uneven.ensures ∙ ap Some (sym (c.requires.starts.at p (omega arith))))
+    let g = c.args.layout.now in
+    let p = c.loop-p.p in (
+      refl,
+      first_some _ 4 p _ c.loop-p-test.true c.loop-p.invariant
+      (share_is g.bytes.now p _ _ _ true c.share.ensures c.share-each.ensures g.leads c.if-is_uneven.ensures ∙ ap Some (sym (g.placed p c.loop-p-test.true))),
+    )
 
 pub loop-p-preserved : goal.loop-p-preserved
 loop-p-preserved c =
+    let g = c.args.layout.now in
     first_none _ c.loop-p.p c.loop-p.invariant
-    (share_is c.args.bytes.now c.loop-p.p _ _ _ false c.share_in.ensures c.share_in-each.ensures c.requires.leader c.if-is_uneven.ensures)
+    (share_is g.bytes.now c.loop-p.p _ _ _ false c.share.ensures c.share-each.ensures g.leads c.if-is_uneven.ensures)
 
 pub returns : goal.returns
 returns c = let four : c.loop-p.p ≡ 4 = omega arith in (ap (first _) (sym four) ∙ c.loop-p.invariant, tt)

@@ -1,7 +1,7 @@
 use Rattle.std.proofs.Common.{◌≡◌, ◌+◌, None}
 use Rattle.cards.specs.Hands.{held, numbers}
 use Rattle.cards.specs.Deal.{first, fault, against}
-use Rattle.cards.proofs.reader.revokes_in.Given as goal
+use Rattle.cards.proofs.reader.check_suits.Given as goal
 
 abbrev pub invariant-loop-i : goal.invariant-loop-i
-invariant-loop-i l = first (λ i. fault (against (numbers l.trick) (held l.hands) l.leader.seat i) (3 + i)) l.i ≡ None
+invariant-loop-i l = first (λ i. fault (against (numbers l.fn.trick) (held l.hands) l.leader.seat i) (3 + i)) l.i ≡ None
