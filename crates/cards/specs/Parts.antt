@@ -2,7 +2,7 @@
 use Rattle.std.specs.Prelude.{◌≡◌, ℕ, ◌<◌, List, length, Some, None, Option, Ok, Err, Result, slice_index}
 use Rattle.cards.specs.Table.{deck, count}
 use Rattle.cards.specs.Bits.{bit}
-use Rattle.cards.specs.Deal.{start_of, number_byte, cards_of, before, has}
+use Rattle.cards.specs.Deal.{number_byte, cards_of, before, has}
 use Rattle.cards.specs.Refusals.{number_of, place_of, lent_place}
 use Rattle.cards.specs.declared.refusal.Refusal.{Refusal}
 use Rattle.cards.specs.declared.refusal.Lent.{Lent}

@@ -90,7 +90,11 @@ fn hands_in(layout: &Layout<'_>, trick: Hand) -> Result<[Hand; 4], Refusal>
     let mut hands = [Hand { bits: 0 }; 4];
     let mut taken = trick;
     for (p, start) in layout.starts.iter().enumerate() {
-        let cards = part(layout.bytes, start + 1, byte_at(layout.bytes, *start) as usize);
+        let cards = part(
+            layout.bytes,
+            start + 1,
+            byte_at(layout.bytes, *start) as usize,
+        );
         let hand = gather(cards, start + 1, taken)?;
         hands[p] = hand;
         taken = taken.union(hand);
@@ -140,7 +144,12 @@ fn is_against(led: Card, card: Card, hand: Hand) -> bool
 }
 
 // Refuses at the place of the first card of a trick that was played against the suit led.
-fn check_suits(trick: [Card; 3], played: u8, leader: Player, hands: [Hand; 4]) -> Result<(), Refusal>
+fn check_suits(
+    trick: [Card; 3],
+    played: u8,
+    leader: Player,
+    hands: [Hand; 4],
+) -> Result<(), Refusal>
     requires { played ≤ 3 }
     ensures { Says 6 result (first (λ i. fault (against (numbers trick) (held hands) leader.seat i) (3 + i)) played) (λ _. Unit {0}) }
 {

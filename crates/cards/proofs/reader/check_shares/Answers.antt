@@ -19,7 +19,7 @@ returns-then-is_uneven c =
     let p = c.loop-p.p in (
       refl,
       first_some _ 4 p _ c.loop-p-test.true c.loop-p.invariant
-      (share_is g.bytes.now p _ _ _ true c.share.ensures c.share-each.ensures g.leads c.if-is_uneven.ensures ∙ ap Some (sym (g.placed p c.loop-p-test.true))),
+          (share_is g.bytes.now p _ _ _ true c.share.ensures c.share-each.ensures g.leads c.if-is_uneven.ensures ∙ ap Some (sym (g.placed p c.loop-p-test.true))),
     )
 
 pub loop-p-preserved : goal.loop-p-preserved

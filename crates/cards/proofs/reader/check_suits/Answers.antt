@@ -30,8 +30,8 @@ returns-then-is_against c =
     let card = card_is c.args.trick c.args.played c.loop-i.i c.card-item.result (omega arith) (omega arith) c.card-item.is in (
       refl,
       first_some _ c.args.played c.loop-i.i (3 + c.loop-i.i) (omega arith) c.loop-i.invariant
-      (ap (λ (b : Bool). fault b (3 + c.loop-i.i))
-      (against_at c.args.trick c.args.hands c.args.leader.seat c.loop-i.i c.ahead-player.result.seat _ c.card-item.result _ card (omega arith) (omega arith) c.ahead-player.ensures ∙ sym c.if-is_against.ensures)),
+          (ap (λ (b : Bool). fault b (3 + c.loop-i.i))
+          (against_at c.args.trick c.args.hands c.args.leader.seat c.loop-i.i c.ahead-player.result.seat _ c.card-item.result _ card (omega arith) (omega arith) c.ahead-player.ensures ∙ sym c.if-is_against.ensures)),
     )
 
 pub loop-i-preserved : goal.loop-i-preserved
