@@ -32,7 +32,7 @@ fn time_deal(rt: &HostRuntime, deal: &[u8]) -> anyhow::Result<()> {
         positions: 1,
         worths: 1,
     };
-    match read_deal(deal, room) {
+    match read_deal(deal, room, 0) {
         Ok(read) => time_table(rt, &read.board, read.board.hands[0].len()),
         Err(_) => Err(anyhow!("a table was refused")),
     }

@@ -14,6 +14,7 @@ pub struct Few<T, const N: usize> {
 #[derive(Clone, Copy)]
 pub struct Full;
 
+// Written out, since no derive serves a generic struct with an invariant.
 impl<T: Copy, const N: usize> Clone for Few<T, N> {
     ghost is_clone = { λ x y. y ≡ x };
 

@@ -9,7 +9,7 @@ mod tests {
 
     // The number and the place of a refusal; 0 and the number of its bytes for a deal that is taken.
     fn answer(bytes: &[u8], room: Room) -> (u8, usize) {
-        match read_deal(bytes, room) {
+        match read_deal(bytes, room, 0) {
             Ok(deal) => (0, deal.size),
             Err(refusal) => (refusal.number(), refusal.place()),
         }
@@ -165,7 +165,7 @@ mod tests {
 
     #[test]
     fn a_table(rt: HostRuntime) -> Result<(), Fail> {
-        let Ok(deal) = read_deal(&[3, 3, 3, 48, 51, 50, 0, 0, 1, 49, 0], AMPLE) else {
+        let Ok(deal) = read_deal(&[3, 3, 3, 48, 51, 50, 0, 0, 1, 49, 0], AMPLE, 0) else {
             return Err(Fail::new("refused"));
         };
         let second = deal.board.trick[1];

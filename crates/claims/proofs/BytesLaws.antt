@@ -54,7 +54,7 @@ module _ (bs : List ℕ) (room : Room) where
   start_refused e right = let (k, is, first) = deal_refused (PlayFault bs room) bs e right in subst (λ (n : ℕ). StartRefused bs room n (place_of e)) is (no_deal k first)
 
   -- a good deal that the side byte has to follow is a good deal
-  pub good_alone : GoodDeal (PlayFault bs room) → GoodDeal (Fault bs room)
+  pub good_alone : GoodDeal (PlayFault bs room) → GoodDeal (Fault 0 bs room)
   good_alone good bad_trump p = good bad_trump p
   good_alone good bad_lead p = good bad_lead p
   good_alone good no_room p = good no_room p
@@ -64,7 +64,7 @@ module _ (bs : List ℕ) (room : Room) where
   good_alone good bad_suit p = good bad_suit p
 
   -- the slices of a good deal's room can be used
-  pub lent_slots : (keys worths : List ℕ) → room.positions ≡ length keys → room.worths ≡ length worths → GoodDeal (Fault bs room) → usable keys worths ≡ true
+  pub lent_slots : (keys worths : List ℕ) → room.positions ≡ length keys → room.worths ≡ length worths → GoodDeal (Fault 0 bs room) → usable keys worths ≡ true
   lent_slots keys worths a b good = elim (cases_eq room.positions 0) [
     | inl z ↦ absurd (good no_room 2 (inr (inr (refl, inl z))))
     | inr some ↦ elim (cases_eq room.positions room.worths) [
@@ -90,20 +90,20 @@ row_answer t n o cs lent lent' l (Err e) value right =
     (stops, why)
 
 module _ (bs : List ℕ) (room : Room) where
-  row_told : GoodDeal (Fault bs room) → (r : Result Board Refusal) → RowAnswer (table_in bs) (rest_of bs) r → TableTold bs room r
+  row_told : GoodDeal (Fault 0 bs room) → (r : Result Board Refusal) → RowAnswer (table_in bs) (rest_of bs) r → TableTold bs room r
   row_told good (Ok b) (fit, reached) = (record { deal = good; row = fit }, reached)
   row_told good (Err e) (stops, why) = bad_row good stops why
 
-  pub table_told : (d : Deal) → reading.Right bs room (told (Ok d)) → (cs : List ℕ) → cs ≡ drop d.size bs → (lent lent' : List Play) → length lent ≡ 32 → (r : Result Board Refusal) →
+  pub table_told : (d : Deal) → reading.Right 0 bs room (told (Ok d)) → (cs : List ℕ) → cs ≡ drop d.size bs → (lent lent' : List Play) → length lent ≡ 32 → (r : Result Board Refusal) →
       referee.Refereed (seen d.board) cs lent lent' r → Right (seen d.board) (length lent) cs (referee.told (length cs) lent' r) → TableTold bs room r
   table_told d taken cs rest lent lent' l r value right =
-      let (good, table, size) = deal_taken (Fault bs room) bs d taken in
+      let (good, table, size) = deal_taken (Fault 0 bs room) bs d taken in
       let b = d.board in
       let answer = row_answer (seen b) (tricks_left b) (in_order b) cs lent lent' (omega (arith, few_cards (seen b) (tricks_left b) (in_order b))) r value right in
       row_told good r (subst (λ (xs : List ℕ). RowAnswer (table_in bs) xs r) (rest ∙ ap (λ (k : ℕ). drop k bs) size) (subst (λ (t : Table). RowAnswer t cs r) table answer))
 
-  pub table_refused : (e : Refusal) → reading.Right bs room (told (Err e)) → TableTold bs room (Err e)
-  table_refused e right = let (k, is, first) = deal_refused (Fault bs room) bs e right in subst (λ (n : ℕ). RowRefused bs room n (place_of e)) is (bad_deal k first)
+  pub table_refused : (e : Refusal) → reading.Right 0 bs room (told (Err e)) → TableTold bs room (Err e)
+  table_refused e right = let (k, is, first) = deal_refused (Fault 0 bs room) bs e right in subst (λ (n : ℕ). RowRefused bs room n (place_of e)) is (bad_deal k first)
 
 -- ---- the claim
 -- the side that claims is the one that its byte says
@@ -198,9 +198,9 @@ unfolding has
 has_few [] n = let e = count_none (λ _. false) n (λ x. refl) in omega arith
 has_few (c ∷ cs) n = omega (arith, count_either (has cs) c n, has_few cs n, one_most (ltb c n))
 
-module _ (bs : List ℕ) (room : Room) (good : GoodDeal (Fault bs room)) where
+module _ (bs : List ℕ) (room : Room) (good : GoodDeal (Fault 0 bs room)) where
   whole : start_of bs 4 ≤ length bs
-  whole = elim (cases_lt (length bs) (start_of bs 4)) [ inl l ↦ absurd (good cut_short (length bs) (refl, l)) | inr l ↦ omega arith ]
+  whole = elim (cases_lt (length bs) (start_of bs 4)) [ inl l ↦ absurd (good cut_short (length bs) (refl, omega arith)) | inr l ↦ omega arith ]
 
   -- each hand's plays have places four times over
   fourfold : (p : ℕ) → p < 4 → 4 * number_byte bs p ≤ room.plays

@@ -2,7 +2,7 @@
 use Rattle.std.specs.Prelude.{◌≡◌, ℕ, ◌+◌, ◌-◌, ◌<◌, true, false, List, length, take, drop, Ok, Err, Result, ◌==◌}
 use Rattle.cards.specs.Table.{Table}
 use Rattle.cards.specs.Deal.{byte, start_of, table_in}
-use Rattle.cards.specs.Faults.{Check, number, Fault, FaultBefore, FirstOf, First}
+use Rattle.cards.specs.Faults.{Check, number, Fault, FirstOf, First}
 use Rattle.cards.specs.Refusals.{number_of, place_of}
 use Rattle.cards.specs.Seen.{seen}
 use Rattle.cards.specs.declared.board.Board.{Board}
@@ -50,13 +50,13 @@ table_after bs = table_at (table_in bs) (rest_of bs) (length (rest_of bs))
 
 -- a deal and its row are in order: no check of the deal fails, and each card of the row may be played where it stands
 pub record RowStands (bs : List ℕ) (room : Room) : Type 0 where
-  pub deal : GoodDeal (Fault bs room)
+  pub deal : GoodDeal (Fault 0 bs room)
   pub row : AllFit (table_in bs) (rest_of bs)
 
 -- the first refusal of a deal and its row: the first check of the deal that fails, at its first place; then the first card of the row that may not be played, for what is wrong with it
 pub data RowRefused (bs : List ℕ) (room : Room) : ℕ → ℕ → Type 0 where
-  bad_deal : {p : ℕ} (k : Check) → First bs room k p → RowRefused bs room (number k) p
-  bad_row : {n p : ℕ} → GoodDeal (Fault bs room) → Stops (table_in bs) (rest_of bs) p → Why (table_at (table_in bs) (rest_of bs) p) (card_at (rest_of bs) p) n → RowRefused bs room n p
+  bad_deal : {p : ℕ} (k : Check) → First 0 bs room k p → RowRefused bs room (number k) p
+  bad_row : {n p : ℕ} → GoodDeal (Fault 0 bs room) → Stops (table_in bs) (rest_of bs) p → Why (table_at (table_in bs) (rest_of bs) p) (card_at (rest_of bs) p) n → RowRefused bs room n p
 
 -- the first refusal of an input that is to be judged: of the deal and its row, and last of the claim
 pub data InputRefused (bs : List ℕ) (room : Room) : ℕ → ℕ → Type 0 where
@@ -82,7 +82,7 @@ TableTold bs room (Err e) = RowRefused bs room (number_of e) (place_of e)
 -- ---- playing on
 -- the side byte stands after the deal, which it has to follow, and then the cards of the other side
 abbrev pub PlayFault : List ℕ → Room → Check → ℕ → Type 0
-PlayFault bs room = FaultBefore 1 bs room
+PlayFault bs room = Fault 1 bs room
 
 abbrev pub player_byte : List ℕ → ℕ
 player_byte bs = byte bs (start_of bs 4)

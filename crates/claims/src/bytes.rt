@@ -10,7 +10,7 @@ use crate::play_on::{Line, play_on};
 use cards::board::Board;
 use cards::card::Card;
 use cards::player::{Player, Side};
-use cards::reader::{byte_at, read_deal, read_deal_before};
+use cards::reader::{byte_at, read_deal};
 use cards::refusal::Refusal;
 use cards::room::Room;
 use referee::row::{Play, play_row};
@@ -50,7 +50,7 @@ fn rest_from(bytes: &[u8], place: usize) -> &[u8]
 fn table_after(bytes: &[u8], room: Room) -> Result<Board, Refusal>
     ensures { TableTold bytes.now room result }
 {
-    let deal = read_deal(bytes, room)?;
+    let deal = read_deal(bytes, room, 0)?;
     let unplayed = Play {
         player: Player { seat: 0 },
         card: Card { number: 0 },
@@ -112,7 +112,7 @@ pub fn play_bytes(
         worths: worths.len(),
     };
     // the byte for the side has to follow
-    let deal = read_deal_before(bytes, room, 1)?;
+    let deal = read_deal(bytes, room, 1)?;
     let side = side_of(byte_at(bytes, deal.size))?;
     let row = rest_from(bytes, deal.size + 1);
     play_on(&deal.board, side, row, plays, positions, worths)

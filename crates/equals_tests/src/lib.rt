@@ -97,7 +97,7 @@ mod tests {
     fn set_of(numbers: &[u8]) -> Hand {
         let mut set = Hand::empty();
         for number in numbers {
-            if let Some(card) = Card::from_number(*number) {
+            if let Ok(card) = Card::try_from(*number) {
                 set = set.with(card);
             }
         }
@@ -107,7 +107,7 @@ mod tests {
     #[test]
     fn lowest_of_deals(rt: HostRuntime) -> Result<(), Fail> {
         for (bytes, told) in DEALS {
-            let Ok(deal) = read_deal(bytes, AMPLE) else {
+            let Ok(deal) = read_deal(bytes, AMPLE, 0) else {
                 return Err(Fail::new("refused"));
             };
             assert_eq!(rt; lowest_equals(&deal.board).bits, set_of(told).bits);
@@ -118,7 +118,7 @@ mod tests {
     #[test]
     fn each_card_of_deals(rt: HostRuntime) -> Result<(), Fail> {
         for (bytes, told) in DEALS {
-            let Ok(deal) = read_deal(bytes, AMPLE) else {
+            let Ok(deal) = read_deal(bytes, AMPLE, 0) else {
                 return Err(Fail::new("refused"));
             };
             for number in 0..52u8 {

@@ -58,7 +58,7 @@ fn play_of(board: &Board, card: Card, taker: Option<Player>) -> Play
 fn play_byte(board: &Board, byte: u8) -> Option<Step>
     ensures { MatchOption result (may (seen board.now) byte ≡ false) (λ s. Moved (seen board.now) byte s) }
 {
-    let card = Card::from_number(byte)?;
+    let card = Card::try_from(byte).ok()?;
     let played = play(board, card)?;
     Some(Step {
         board: played.board,
@@ -70,10 +70,7 @@ fn play_byte(board: &Board, byte: u8) -> Option<Step>
 fn holds_byte(hand: Hand, byte: u8) -> bool
     ensures { result ≡ bit hand.bits byte }
 {
-    match Card::from_number(byte) {
-        Some(card) => hand.holds(card),
-        None => false,
-    }
+    Card::try_from(byte).is_ok_and(|card| hand.holds(card))
 }
 
 // Why a byte that may not be played is refused, by the hand of the player to play.

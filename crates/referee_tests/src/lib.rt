@@ -191,7 +191,7 @@ mod tests {
 
     // Plays a row of a deal with the first so many places of a slice: 0 and the player to play, or the number and the place of the refusal; 255 for a deal that is refused, or too few places.
     fn answer(bytes: &[u8], row: &[u8], places: usize, lent: &mut [Play]) -> (u8, usize) {
-        let Ok(deal) = read_deal(bytes, AMPLE) else {
+        let Ok(deal) = read_deal(bytes, AMPLE, 0) else {
             return (255, 0);
         };
         if places > lent.len() {

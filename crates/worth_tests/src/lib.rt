@@ -73,7 +73,7 @@ mod tests {
 
     // The worth of a deal; 9 where it is refused.
     fn worth_of(bytes: &[u8]) -> u8 {
-        let Ok(deal) = read_deal(bytes, ROOM) else {
+        let Ok(deal) = read_deal(bytes, ROOM, 0) else {
             return 9;
         };
         // what the slices held before does not matter
@@ -94,7 +94,7 @@ mod tests {
 
     #[test]
     fn slices_that_cannot_be_used(rt: HostRuntime) -> Result<(), Fail> {
-        let Ok(deal) = read_deal(&[4, 0, 0, 1, 51, 1, 50, 1, 49, 1, 48], ROOM) else {
+        let Ok(deal) = read_deal(&[4, 0, 0, 1, 51, 1, 50, 1, 49, 1, 48], ROOM, 0) else {
             return Err(Fail::new("refused"));
         };
         let mut positions = [7u64; 2];
