@@ -9,15 +9,15 @@ ghost use Rattle.equals.specs.Covered.{of_others, seen_in_play};
 use cards::board::Board;
 use cards::hand::Hand;
 use cards::player::Player;
-use tricks::turn::{hand_of, hand_to_play, turn};
+use tricks::turn::{current_trick, hand_of, hand_to_play, turn};
 
 // The cards that lie on the table.
 fn on_table(board: &Board) -> Hand
     ensures { (x : ℕ) → bit result.bits x ≡ on x (seen board.now).trick }
 {
     let mut lying = Hand::empty();
-    for place in 0..board.played {
-        lying = lying.with(board.trick[place as usize]);
+    for card in current_trick(board) {
+        lying = lying.with(*card);
     }
     lying
 }

@@ -53,10 +53,7 @@ fn next_lower(cards: Hand, card: Card) -> Option<Card>
 fn is_covered(own: Hand, in_play: Hand, card: Card) -> bool
     ensures { result ≡ covered_by (bit own.bits) (bit in_play.bits) card.number }
 {
-    match next_lower(in_play, card) {
-        Some(next) => own.holds(next),
-        None => false,
-    }
+    next_lower(in_play, card).is_some_and(|next| own.holds(next))
 }
 
 // Whether a card is in a set, and not covered.

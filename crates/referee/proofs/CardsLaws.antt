@@ -1,5 +1,5 @@
 -- How many cards are left at a table. Assumes nothing.
-use Rattle.std.proofs.Common.{◌≡◌, ℕ, ◌+◌, ◌-◌, ◌%◌, ◌<◌, ◌≤◌, ltb, List, [], ◌∷◌, length, get_or, refl, arith}
+use Rattle.std.proofs.Common.{◌≡◌, ℕ, ◌+◌, ◌-◌, ◌%◌, ◌<◌, ◌≤◌, ltb, List, [], ◌∷◌, length, sum_by, arith}
 use Rattle.cards.specs.Table.{Table, one, deck, count, cards_left, Sound, InOrder}
 use Rattle.cards.specs.Bits.{bit}
 use Rattle.cards.specs.Hands.{held}
@@ -8,21 +8,20 @@ use Rattle.cards.specs.declared.board.Board.{Board}
 use Rattle.cards.specs.declared.hand.Hand.{Hand}
 use Rattle.tricks.proofs.CardsLeft.{cards_are}
 
--- the cards of four hands, as read one by one from an array
-hands_count : (hands : List Hand) (v w x y : Hand) → length hands ≡ 4 →
-    (count (bit (get_or hands 0 v).bits) deck + count (bit (get_or hands 1 w).bits) deck) + (count (bit (get_or hands 2 x).bits) deck + count (bit (get_or hands 3 y).bits) deck)
+-- the cards of four hands
+hands_count : (hands : List Hand) → length hands ≡ 4 →
+    sum_by (λ h. count (bit h.bits) deck) hands
     ≡ (count (held hands 0) deck + count (held hands 1) deck) + (count (held hands 2) deck + count (held hands 3) deck)
-hands_count (a ∷ b ∷ c ∷ d ∷ []) v w x y l = refl
-hands_count [] v w x y l = absurd (omega arith)
-hands_count (a ∷ []) v w x y l = absurd (omega arith)
-hands_count (a ∷ b ∷ []) v w x y l = absurd (omega arith)
-hands_count (a ∷ b ∷ c ∷ []) v w x y l = absurd (omega arith)
-hands_count (a ∷ b ∷ c ∷ d ∷ e ∷ es) v w x y l = absurd (omega arith)
+hands_count (a ∷ b ∷ c ∷ d ∷ []) l = omega arith
+hands_count [] l = absurd (omega arith)
+hands_count (a ∷ []) l = absurd (omega arith)
+hands_count (a ∷ b ∷ []) l = absurd (omega arith)
+hands_count (a ∷ b ∷ c ∷ []) l = absurd (omega arith)
+hands_count (a ∷ b ∷ c ∷ d ∷ e ∷ es) l = absurd (omega arith)
 
-pub board_count : (b : Board) (v w x y : Hand) → length b.hands ≡ 4 →
-    (count (bit (get_or b.hands 0 v).bits) deck + count (bit (get_or b.hands 1 w).bits) deck) + (count (bit (get_or b.hands 2 x).bits) deck + count (bit (get_or b.hands 3 y).bits) deck)
-    ≡ cards_left (seen b)
-board_count b v w x y l = hands_count b.hands v w x y l
+-- at a table they are the cards left
+pub board_count : (b : Board) → sum_by (λ h. count (bit h.bits) deck) b.hands ≡ cards_left (seen b)
+board_count b = hands_count b.hands b.seats
 
 -- the place in the trick of a player's card
 abbrev seat_after : Table → ℕ → ℕ

@@ -1,6 +1,7 @@
 // A row of cards as bytes, played on a table card by card, or refused at the first that may not be played.
-ghost use Rattle.std.specs.Prelude.{◌≡◌, ◌≤◌, false, not, length, take, drop, MatchOption, OnOk, nat_lt};
-ghost use Rattle.cards.specs.Table.{cards_left};
+ghost use Rattle.std.specs.Prelude.{◌≡◌, ◌≤◌, false, not, length, MatchOption, IfOk, nat_lt, sum_by};
+ghost use Rattle.cards.specs.Table.{deck, count, cards_left};
+ghost use Rattle.cards.specs.Few.{listed};
 ghost use Rattle.cards.specs.Bits.{bit};
 ghost use Rattle.cards.specs.Seen.{seen};
 ghost use Rattle.cards.specs.Refusals.{number_of, place_of};
@@ -13,6 +14,7 @@ ghost use Rattle.referee.specs.Right.{Right};
 
 use cards::board::Board;
 use cards::card::Card;
+use cards::few::Few;
 use cards::hand::Hand;
 use cards::player::Player;
 use cards::refusal::{Lent, Refusal};
@@ -34,11 +36,11 @@ pub struct Step {
     pub play: Play,
 }
 
-// The plays of a row, of which those past its end mean nothing, and the table after them. A table in order has at most 32 cards.
+// The plays of a row, and the table after them. A table in order has at most 32 cards.
 #[derive(Clone, Copy)]
 struct Log {
     board: Board,
-    plays: [Play; 32],
+    plays: Few<Play, 32>,
 }
 
 // The play of a card by the player to play.
@@ -91,10 +93,7 @@ fn why_not(hand: Hand, byte: u8, place: usize) -> Refusal
 pub fn play_at(board: &Board, byte: u8, place: usize) -> Result<Step, Refusal>
     ensures { Stepped (seen board.now) byte place result }
 {
-    match play_byte(board, byte) {
-        Some(step) => Ok(step),
-        None => Err(why_not(hand_to_play(board), byte, place)),
-    }
+    play_byte(board, byte).ok_or_else(|| why_not(hand_to_play(board), byte, place))
 }
 
 // Plays a row, card by card.
@@ -106,11 +105,11 @@ fn log_row(board: &Board, row: &[u8]) -> Result<Log, Refusal>
         card: Card { number: 0 },
         taker: None,
     };
-    let mut plays = [any; 32];
+    let mut plays = Few::empty(any);
     let mut table = *board;
-    for place in 0..row.len() {
-        let next = play_at(&table, row[place], place)?;
-        plays[place] = next.play;
+    for (place, byte) in row.iter().enumerate() {
+        let next = play_at(&table, *byte, place)?;
+        plays.push(next.play).unwrap();
         table = next.board;
     }
     Ok(Log {
@@ -119,26 +118,20 @@ fn log_row(board: &Board, row: &[u8]) -> Result<Log, Refusal>
     })
 }
 
-// How many cards are left in the four hands.
-fn count_cards(board: &Board) -> usize
-    ensures { result ≡ cards_left (seen board.now) }
+// How many cards the hands have.
+fn count_cards(hands: &[Hand]) -> usize
+    requires { length hands.now ≤ 4 }
+    ensures { result ≡ sum_by (λ h. count (bit h.bits) deck) hands.now }
 {
-    let [first, second, third, fourth] = board.hands;
-    first.len() as usize + second.len() as usize + third.len() as usize + fourth.len() as usize
-}
-
-// Whether there is a place for each card.
-fn has_room(places: usize, cards: usize) -> bool
-    ensures { result ≡ not (nat_lt places cards) }
-{
-    cards <= places
+    hands.iter().map(|hand| hand.len() as usize).sum()
 }
 
 // Whether there are places for the plays of all cards that are left.
+#[tactic(auto, using(crate::proofs::CardsLaws::board_count))]
 pub fn has_places(board: &Board, places: usize) -> bool
     ensures { result ≡ not (nat_lt places (cards_left (seen board.now))) }
 {
-    has_room(places, count_cards(board))
+    count_cards(&board.hands) <= places
 }
 
 // Plays a row, if there are such places.
@@ -151,35 +144,14 @@ fn log_within(board: &Board, row: &[u8], places: usize) -> Result<Log, Refusal>
     log_row(board, row)
 }
 
-// Writes the first so many plays into a slice.
-fn copy_plays(from: [Play; 32], count: usize, plays: &mut [Play])
-    requires few { count ≤ 32 }
-    requires fits { count ≤ length plays.old }
-    ensures written { take count plays.new ≡ take count from }
-    ensures rest { drop count plays.new ≡ drop count plays.old }
+// Writes the plays of a row that is taken into the first places of a slice; of one that is refused it writes none.
+fn hand_over(logged: Result<Log, Refusal>, plays: &mut [Play]) -> Result<Board, Refusal>
+    requires { IfOk logged (λ l. length (listed l.plays) ≤ length plays.old) }
+    ensures { Written logged plays.old plays.new result }
 {
-    for i in 0..count {
-        plays[i] = from[i];
-    }
-}
-
-// Writes the plays of a row that is taken; of one that is refused it writes none.
-fn hand_over(
-    logged: Result<Log, Refusal>,
-    count: usize,
-    plays: &mut [Play],
-) -> Result<Board, Refusal>
-    requires few { OnOk logged (count ≤ 32) }
-    requires fits { OnOk logged (count ≤ length plays.old) }
-    ensures { Written logged count plays.old plays.new result }
-{
-    match logged {
-        Ok(log) => {
-            copy_plays(log.plays, count, plays);
-            Ok(log.board)
-        }
-        Err(refusal) => Err(refusal),
-    }
+    let log = logged?;
+    plays[..log.plays.len()].copy_from_slice(log.plays.as_slice());
+    Ok(log.board)
 }
 
 // Plays a row of cards on a table, and writes its plays into the lent slice, which a refused row leaves as it was.
@@ -187,5 +159,5 @@ pub fn play_row(board: &Board, row: &[u8], plays: &mut [Play]) -> Result<Board, 
     ensures value { Refereed (seen board.now) row.now plays.old plays.new result }
     ensures right { Right (seen board.now) (length plays.old) row.now (told (length row.now) plays.new result) }
 {
-    hand_over(log_within(board, row, plays.len()), row.len(), plays)
+    hand_over(log_within(board, row, plays.len()), plays)
 }

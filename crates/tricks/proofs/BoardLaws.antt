@@ -1,25 +1,18 @@
--- What the fields of a board say of its table: the cards on it, a hand of it, and the suit led. Assumes nothing.
-use Rattle.std.proofs.Common.{◌≡◌, ℕ, zero, suc, ◌+◌, ◌%◌, ◌<◌, Bool, eqb, ltb, List, [], ◌∷◌, ◌++◌, length, get_or, take, set, Some, None, sym, refl, ap, ◌∙◌, inl, inr, arith}
+-- What the fields of a board say of its table: the cards on it, and a hand of it. Assumes nothing.
+use Rattle.std.proofs.Common.{◌≡◌, ℕ, ◌+◌, ◌%◌, ◌<◌, Bool, eqb, ltb, List, [], ◌∷◌, ◌++◌, length, get_or, take, set, sym, ap, ◌∙◌, inl, inr, arith}
 use Rattle.std.proofs.lemmas.Bool.{cases_eq, eq-eqb, ne_eqb}
 use Rattle.std.proofs.lemmas.List.{length-map, length-take-le, map-set, get_or-set_same, get_or-set_other, take_more_set}
-use Rattle.cards.specs.Table.{pick, one, deck, suit, count, Sound}
+use Rattle.cards.specs.Table.{pick, one, deck, count, Sound}
 use Rattle.cards.specs.Bits.{bit}
 use Rattle.cards.specs.Hands.{bits_of, held, numbers, table_of, tricks_of}
 use Rattle.cards.specs.declared.card.Card.{Card}
 use Rattle.cards.specs.declared.card.Trump.{Trump}
 use Rattle.cards.specs.declared.hand.Hand.{Hand}
 use Rattle.cards.specs.declared.player.Player.{Player}
-use Rattle.tricks.specs.Led.{led_suit}
 
 -- as many cards lie on the table as were played to the trick
 pub cards_on : (trick : List Card) (n : ℕ) → length trick ≡ 3 → n < 4 → length (take n (numbers trick)) ≡ n
 cards_on trick n three l = length-take-le n (numbers trick) (omega (arith, length-map trick (λ c. c.number)))
-
--- the suit led is that of the first card
-pub led_is : (trick : List Card) (n : ℕ) (d : Card) → 0 < length trick → pick (eqb n 0) None (Some (suit (get_or trick 0 d).number)) ≡ led_suit (take n (numbers trick))
-led_is [] n d l = absurd (omega arith)
-led_is (x ∷ xs) zero d l = refl
-led_is (x ∷ xs) (suc n) d l = ap (λ (b : Bool). pick b None (Some (suit x.number))) (ne_eqb (suc n) 0 (λ e. omega arith))
 
 -- the trick with a card more
 pub trick_more : (trick : List Card) (n : ℕ) (card : Card) → n < length trick → take (n + 1) (numbers (set trick n card)) ≡ take n (numbers trick) ++ (card.number ∷ [])

@@ -7,6 +7,16 @@ use Rattle.cards.specs.declared.card.Card.{Card}
 use Rattle.tricks.specs.Rules.{beats, best, winner, gains}
 use Rattle.tricks.specs.Taken.{taken_by, gain_of}
 
+-- the first card is the best so far, before and after it is seen
+pub best_first : (trump s : ℕ) (xs : List ℕ) → 0 < length xs → best trump s (get_or xs 0 0) 0 0 xs ≡ best trump s (get_or xs 0 0) 0 1 (drop 1 xs)
+unfolding best
+best_first trump s [] l = absurd (omega arith)
+best_first trump s (x ∷ xs) l = by (beats trump s x x)
+  where
+    by : (b : Bool) → pick b (best trump s x 0 1 xs) (best trump s x 0 1 xs) ≡ best trump s x 0 1 xs
+    by true = refl
+    by false = refl
+
 -- the best card, with one more card seen
 pub best_more : (trump s c at i : ℕ) (xs : List ℕ) → i < length xs →
     best trump s c at i (drop i xs) ≡ pick (beats trump s c (get_or xs i 0)) (best trump s (get_or xs i 0) i (i + 1) (drop (i + 1) xs)) (best trump s c at (i + 1) (drop (i + 1) xs))
@@ -42,12 +52,3 @@ gain_is t c = by (eqb (length t.trick) 3)
     by : (b : Bool) → gain_of (pick b (Some (winner t (t.trick ++ (c ∷ [])))) None) ≡ one (b && eqb (winner t (t.trick ++ (c ∷ [])) % 2) 0)
     by true = refl
     by false = refl
-
--- no card gains more than one
-pub gains_low : (t : Table) (c : ℕ) → gains t c ≤ 1
-unfolding gains
-gains_low t c = low (eqb (length t.trick) 3 && eqb (winner t (t.trick ++ (c ∷ [])) % 2) 0)
-  where
-    low : (b : Bool) → one b ≤ 1
-    low true = omega arith
-    low false = omega arith

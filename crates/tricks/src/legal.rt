@@ -1,43 +1,29 @@
 // What may be played.
-ghost use Rattle.std.specs.Prelude.{◌≡◌, ℕ, ◌*◌, ◌^◌, ◌&&◌, Some, None, ◌==◌};
-ghost use Rattle.cards.specs.Table.{pick, suit as suit_of};
+ghost use Rattle.std.specs.Prelude.{◌≡◌, ℕ, ◌*◌, ◌^◌, ◌&&◌, ◌==◌};
+ghost use Rattle.cards.specs.Table.{suit as suit_of};
 ghost use Rattle.cards.specs.Bits.{bit};
 ghost use Rattle.cards.specs.Numbers.{suit_number};
 ghost use Rattle.cards.specs.Seen.{seen};
 ghost use Rattle.tricks.specs.Rules.{may};
 ghost use Rattle.tricks.specs.Led.{suit_told, led_suit, goes};
 
-use crate::turn::hand_to_play;
+use crate::turn::{current_trick, hand_to_play};
 use cards::board::Board;
 use cards::card::{Card, Suit};
 use cards::hand::Hand;
-
-// The suit of the first card, if any card lies on the table.
-fn led_by(first: Card, played: u8) -> Option<Suit>
-    ensures { suit_told result ≡ pick (played == 0) None (Some (suit_of first.number)) }
-{
-    if played == 0 {
-        None
-    } else {
-        Some(first.suit())
-    }
-}
 
 // The suit led, if any is.
 fn led(board: &Board) -> Option<Suit>
     ensures { suit_told result ≡ led_suit (seen board.now).trick }
 {
-    led_by(board.trick[0], board.played)
+    current_trick(board).first().map(|card| card.suit())
 }
 
 // Whether a card of a hand goes on a trick: it is of the suit led, or the hand has none of that.
 fn is_playable(hand: Hand, led: Option<Suit>, card: Card) -> bool
     ensures { result ≡ (bit hand.bits card.number && goes (bit hand.bits) (suit_told led) card.number) }
 {
-    let Some(suit) = led else {
-        return hand.holds(card);
-    };
-    hand.holds(card) && (card.is_of(suit) || !hand.has_suit(suit))
+    hand.holds(card) && led.is_none_or(|suit| card.is_of(suit) || !hand.has_suit(suit))
 }
 
 pub fn may_play(board: &Board, card: Card) -> bool
@@ -59,6 +45,7 @@ fn suit_mask(suit: Suit) -> u64
 }
 
 // The cards of a suit.
+#[tactic(auto, using(crate::proofs::MaskLaws::bit_suit))]
 pub fn cards_of(hand: Hand, suit: Suit) -> Hand
     ensures { (x : ℕ) → bit result.bits x ≡ (bit hand.bits x && suit_of x == suit_number suit) }
 {

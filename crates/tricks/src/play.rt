@@ -28,17 +28,15 @@ impl Played {
     pub fn gain(self) -> u8
         ensures { result ≡ gain_of (taker_of self.taker) }
     {
-        let Some(player) = self.taker else {
-            return 0;
-        };
-        match player.side() {
+        self.taker.map_or(0, |player| match player.side() {
             Side::Ours => 1,
             Side::Others => 0,
-        }
+        })
     }
 }
 
 // The hands, with another for a player.
+#[tactic(auto, using(crate::proofs::BoardLaws::hands_set))]
 fn hands_with(hands: [Hand; 4], player: Player, hand: Hand) -> [Hand; 4]
     ensures { (p x : ℕ) → held result p x ≡ pick (p == player.seat) (bit hand.bits x) (held hands p x) }
 {
@@ -58,13 +56,11 @@ fn hands_without(hands: [Hand; 4], player: Player, card: Card) -> [Hand; 4]
 fn next_leader(leader: Player, taker: Option<Player>) -> Player
     ensures { result.seat ≡ next_of (taker_of taker) leader.seat }
 {
-    match taker {
-        Some(player) => player,
-        None => leader,
-    }
+    taker.unwrap_or(leader)
 }
 
 // The trick with a card more; a fourth finds no place, and lies there no more.
+#[tactic(auto, using(crate::proofs::BoardLaws::trick_more))]
 fn trick_with(trick: [Card; 3], played: u8, card: Card) -> [Card; 3]
     ensures { played < 3 → take (played + 1) (numbers result) ≡ take played (numbers trick) ++ (card.number ∷ []) }
 {

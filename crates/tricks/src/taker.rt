@@ -34,12 +34,12 @@ fn best_place(trump: Trump, cards: [Card; 4]) -> u8
     ensures { result ≡ best_of (trump_number trump) (suit_of (slice_index (numbers cards) 0)) (slice_index (numbers cards) 0) 0 1 (drop 1 (numbers cards)) }
 {
     let mut best = 0;
-    for place in 1..4 {
-        if is_better(trump, cards[best as usize], cards[place as usize]) {
+    for (place, card) in cards.iter().enumerate() {
+        if is_better(trump, cards[best], *card) {
             best = place;
         }
     }
-    best
+    best as u8
 }
 
 // Who takes a trick of four cards.

@@ -1,12 +1,20 @@
 // Whose turn it is.
 ghost use Rattle.std.specs.Prelude.{◌≡◌, length, slice_index};
-ghost use Rattle.cards.specs.Hands.{bits_of};
+ghost use Rattle.cards.specs.Hands.{bits_of, numbers};
 ghost use Rattle.cards.specs.Seen.{seen, tricks_left};
 ghost use Rattle.tricks.specs.Rules.{turn as turn_of};
 
 use cards::board::Board;
+use cards::card::Card;
 use cards::hand::Hand;
 use cards::player::Player;
+
+// The cards that lie on the table, from the leader's on.
+pub fn current_trick(board: &Board) -> &[Card]
+    ensures { numbers result.now ≡ (seen board.now).trick }
+{
+    &board.trick[..board.played as usize]
+}
 
 // How many cards lie on the table.
 pub(crate) fn cards_on_table(board: &Board) -> u8

@@ -1,7 +1,7 @@
 use Rattle.cards.specs.Table.{deck}
 use Rattle.cards.specs.Bits.{bit}
 use Rattle.equals.specs.Covered.{covered}
-use Rattle.equals.proofs.SiftLaws.{sifted_more, sifted_all, fewer_left}
+use Rattle.equals.proofs.SiftLaws.{sifted_all, fewer_left}
 use Rattle.equals.proofs.TopLaws.{some_top, no_top}
 use Rattle.equals.proofs.lowest.uncovered.Goals as goal
 
@@ -10,11 +10,6 @@ loop-card-smaller c =
     let left = c.loop-card.left.bits in
     let card = c.in-Some.card in
     fewer_left left c.without-left.result.bits card.number c.without-left.ensures card.low (some_top (bit left) deck card.number c.in-Some.ensures).there
-
-pub loop-card-preserved : goal.loop-card-preserved
-loop-card-preserved c =
-    sifted_more c.args.cards.bits c.loop-card.left.bits c.loop-card.found.bits c.without-left.result.bits c.without_covered-found.result.bits c.in-Some.card.number
-    (covered (bit c.args.own.bits) (bit c.args.in_play.bits)) c.loop-card.invariant c.without-left.ensures c.without_covered-found.ensures
 
 pub returns : goal.returns
 returns c =
