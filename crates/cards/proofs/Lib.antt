@@ -13,3 +13,4 @@ mod FirstRefusal
 mod DealOrder
 mod BoardLaws
 mod ReadLaws
+pub mod FewLaws

@@ -9,3 +9,4 @@ pub mod Faults
 pub mod Reading
 pub mod Told
 pub mod Parts
+pub mod Few

@@ -4,6 +4,7 @@
 pub mod board;
 pub mod card;
 pub mod deal;
+pub mod few;
 pub mod hand;
 pub mod player;
 pub mod reader;
