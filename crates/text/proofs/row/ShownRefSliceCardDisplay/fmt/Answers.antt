@@ -1,8 +1,9 @@
-use Rattle.std.proofs.Common.{sym, ap, rules}
+use Rattle.std.proofs.Common.{codes, sym, refl, ap, rules}
 use Rattle.std.proofs.Output.{has_written_of_eq}
 use Rattle.std.proofs.lemmas.List.{nil_from_length}
 use Rattle.cards.specs.Hands.{numbers}
-use Rattle.text.specs.Cards.{row_text}
+use Rattle.text.specs.Cards.{row_text, card_text}
+use Rattle.text.proofs.EachLaws.{by_told}
 use Rattle.text.proofs.Sofar.{both, at_first}
 use Rattle.text.proofs.row.ShownRefSliceCardDisplay.fmt.Goals as goal
 
@@ -13,4 +14,4 @@ returns-in-empty-clause-writes g c =
 pub returns-in_ok-write-in-len1-up-clause-writes : goal.returns-in_ok-write-in-len1-up-clause-writes
 returns-in_ok-write-in-len1-up-clause-writes g c =
     λ plain ok. has_written_of_eq _ _ _ _ _ (sym (at_first (λ cs. row_text (numbers cs)) c.args.self.now.0.now c.first-item.result (search rules) c.first-item.is))
-    (both _ _ _ c.in_ok-write-in-len1-up.ensures.writes c.show_more.ensures plain ok)
+    (both _ _ _ c.in_ok-write-in-len1-up.ensures.writes (λ p k. by_told (codes " ") card_text (λ c. c.number) _ (c.show_each.ensures _ (λ x. refl) p k)) plain ok)
