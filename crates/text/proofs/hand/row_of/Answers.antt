@@ -1,4 +1,4 @@
-use Rattle.std.proofs.Common.{refl, sym, rules, arith}
+use Rattle.std.proofs.Common.{refl, sym, arith}
 use Rattle.text.proofs.HandLaws.{skips, one_more, all}
 use Rattle.text.proofs.hand.row_of.Goals as goal
 
