@@ -2,7 +2,7 @@
 // the cards in a hand, its worth and the nanoseconds that the search took.
 #![tactic(auto)]
 
-use anyhow::anyhow;
+use anyhow::{Context, anyhow};
 use cards::board::Board;
 use cards::reader::read_deal;
 use cards::room::Room;
@@ -32,10 +32,8 @@ fn time_deal(rt: &HostRuntime, deal: &[u8]) -> anyhow::Result<()> {
         positions: 1,
         worths: 1,
     };
-    match read_deal(deal, room, 0) {
-        Ok(read) => time_table(rt, &read.board, read.board.hands[0].len()),
-        Err(_) => Err(anyhow!("a table was refused")),
-    }
+    let read = read_deal(deal, room, 0).map_err(|_| anyhow!("a table was refused"))?;
+    time_table(rt, &read.board, read.board.hands[0].len())
 }
 
 fn main(rt: HostRuntime) -> anyhow::Result<()> {
@@ -43,12 +41,11 @@ fn main(rt: HostRuntime) -> anyhow::Result<()> {
     rt.stdin().read_to_end(&mut input)?;
     let mut rest = input.as_slice();
     while let [size, tail @ ..] = rest {
-        let size = *size as usize;
-        if size > tail.len() {
-            return Err(anyhow!("a table ends too early"));
-        }
-        time_deal(&rt, &tail[0..size])?;
-        rest = &tail[size..];
+        let (deal, after) = tail
+            .split_at_checked(*size as usize)
+            .context("a table ends too early")?;
+        time_deal(&rt, deal)?;
+        rest = after;
     }
     Ok(())
 }

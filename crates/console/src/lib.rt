@@ -1,28 +1,33 @@
 // What both programs do around the answer: their argument, their input, and the memory for positions.
 #![tactic(auto)]
 
-ghost use Rattle.std.specs.Prelude.{◌≡◌, ◌+◌, ◌*◌, ◌^◌, ◌≤◌, min, ◌⊎◌, IfSome, IfOk, vec_len};
-ghost use Rattle.console.specs.Served.{Served};
+ghost use Rattle.std.specs.Prelude.{◌≡◌, ℕ, ◌+◌, ◌*◌, ◌^◌, ◌≤◌, min, ◌⊎◌, Ok, IfSome, IfOk, vec_len};
+ghost use Rattle.std.specs.List.{AllClonesOf};
+ghost use Rattle.std.specs.Process.{exit_status};
+ghost use Rattle.console.specs.Served.{Served, Ended};
 
-use anyhow::anyhow;
+use anyhow::{Context, ensure};
 use std::alloc::Global;
 use std::env;
 use std::io::Read;
+use std::process::ExitCode;
 use worth::positions::slots;
+
+#[cfg(test)]
+mod tests;
 
 // The number of cards that a word says, if it is from 1 to 8.
 fn cards_in(word: &str) -> Option<u8>
     ensures value { Served word.now result }
     ensures bound { IfSome result (λ n. (1 ≤ n) × (n ≤ 8)) }
 {
-    match word.parse::<u8>() {
-        Ok(cards) if cards >= 1 && cards <= 8 => Some(cards),
-        _ => None,
-    }
+    word.parse::<u8>()
+        .ok()
+        .filter(|cards| (1..=8).contains(cards))
 }
 
 // The most cards in a hand that are served: the argument, or 5 without one.
-pub fn most_cards(rt: &HostRuntime) -> anyhow::Result<u8>
+fn most_cards(rt: &HostRuntime) -> anyhow::Result<u8>
     ensures { IfOk result (λ n. (1 ≤ n) × (n ≤ 8)) }
 {
     let mut args = env::args(rt)?;
@@ -30,13 +35,8 @@ pub fn most_cards(rt: &HostRuntime) -> anyhow::Result<u8>
     let Some(word) = args.next() else {
         return Ok(5);
     };
-    if args.next().is_some() {
-        return Err(anyhow!("more than one argument"));
-    }
-    match cards_in(word.as_str()) {
-        Some(cards) => Ok(cards),
-        None => Err(anyhow!("no number of cards")),
-    }
+    ensure!(args.next().is_none(), "more than one argument");
+    cards_in(word.as_str()).context("no number of cards")
 }
 
 // All of standard input.
@@ -46,24 +46,35 @@ pub fn read_input(rt: &HostRuntime) -> anyhow::Result<Vec<u8>> {
     Ok(input)
 }
 
-// The keys of the slots for tables of so many cards in a hand. Without memory there is no slot, and the refusal says so.
-pub fn lend_keys(heap: Global, cards: u8) -> Vec<u64>
-    ensures { (vec_len result ≡ 2 ^ (2 * min cards 8 + 4)) ⊎ (vec_len result ≡ 0) }
+// The slots for tables of so many cards in a hand, all empty. Without memory there is no slot, and the refusal says so.
+pub fn lend_slots<T: Clone>(heap: Global, cards: u8, empty: T) -> Vec<T>
+    ensures room { (vec_len result ≡ 2 ^ (2 * min cards 8 + 4)) ⊎ (vec_len result ≡ 0) }
+    ensures empty { AllClonesOf T.is_clone empty result.items }
 {
-    vec![in heap; 0u64; slots(cards)].unwrap_or(Vec::new(heap))
-}
-
-// Their worths.
-pub fn lend_worths(heap: Global, cards: u8) -> Vec<u8>
-    ensures { (vec_len result ≡ 2 ^ (2 * min cards 8 + 4)) ⊎ (vec_len result ≡ 0) }
-{
-    vec![in heap; 0u8; slots(cards)].unwrap_or(Vec::new(heap))
+    vec![in heap; empty; slots(cards)].unwrap_or(Vec::new(heap))
 }
 
 // How a program is called, on standard error.
-pub fn show_usage(rt: &HostRuntime, program: &str) -> anyhow::Result<()> {
+fn show_usage(rt: &HostRuntime, program: &str) -> anyhow::Result<()> {
     eprintln!(rt;
         "usage: {program} [CARDS]   (the most cards in a hand that it serves, 1 to 8; 5 without it)"
     )?;
     Ok(())
+}
+
+// What a program does: it runs for the cards that its argument says, or shows its usage and fails.
+pub fn serve<F: FnOnce(&HostRuntime, u8) -> anyhow::Result<()>>(
+    rt: &HostRuntime,
+    program: &str,
+    run: F,
+) -> anyhow::Result<ExitCode>
+    requires { (cards : ℕ) → 1 ≤ cards → cards ≤ 8 → F.pre run rt cards }
+    ensures { IfOk result (λ code. Ended (λ cards. F.post run rt.entry cards (Ok tt)) (exit_status code)) }
+{
+    let Ok(cards) = most_cards(rt) else {
+        show_usage(rt, program)?;
+        return Ok(ExitCode::FAILURE);
+    };
+    run(rt, cards)?;
+    Ok(ExitCode::SUCCESS)
 }

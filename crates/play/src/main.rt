@@ -4,7 +4,7 @@
 use cards::card::Card;
 use cards::player::Player;
 use claims::bytes::play_bytes;
-use console::{lend_keys, lend_worths, most_cards, read_input, show_usage};
+use console::{lend_slots, read_input, serve};
 use referee::row::Play;
 use std::process::ExitCode;
 use text::Shown;
@@ -12,15 +12,15 @@ use text::Shown;
 // The lines of the plays; without any there is no line.
 fn show_plays(rt: &HostRuntime, plays: &[Play]) -> anyhow::Result<()> {
     if !plays.is_empty() {
-        println!(rt; "{}", Shown(plays))?;
+        rt.println(Shown(plays))?;
     }
     Ok(())
 }
 
 fn run(rt: &HostRuntime, cards: u8) -> anyhow::Result<()> {
     let input = read_input(rt)?;
-    let mut positions = lend_keys(rt.alloc(), cards);
-    let mut worths = lend_worths(rt.alloc(), cards);
+    let mut positions = lend_slots(rt.alloc(), cards, 0u64);
+    let mut worths = lend_slots(rt.alloc(), cards, 0u8);
     let unplayed = Play {
         player: Player { seat: 0 },
         card: Card { number: 0 },
@@ -29,22 +29,10 @@ fn run(rt: &HostRuntime, cards: u8) -> anyhow::Result<()> {
     let mut plays = [unplayed; 32];
     match play_bytes(&input, cards, &mut plays, &mut positions, &mut worths) {
         Ok(line) => show_plays(rt, &plays[..line.plays]),
-        Err(refusal) => {
-            println!(rt; "{}", Shown(refusal))?;
-            Ok(())
-        }
+        Err(refusal) => Ok(rt.println(Shown(refusal))?),
     }
 }
 
 fn main(rt: HostRuntime) -> anyhow::Result<ExitCode> {
-    match most_cards(&rt) {
-        Ok(cards) => {
-            run(&rt, cards)?;
-            Ok(ExitCode::SUCCESS)
-        }
-        Err(_) => {
-            show_usage(&rt, "play")?;
-            Ok(ExitCode::FAILURE)
-        }
-    }
+    serve(&rt, "play", run)
 }

@@ -1,3 +1,4 @@
+pub mod EachLaws
 pub mod Sofar
 pub mod HandLaws
 pub mod ReadBack

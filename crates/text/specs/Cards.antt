@@ -1,6 +1,7 @@
 -- Cards and rows of cards as text, in bytes. Assumes nothing: these are definitions.
 use Rattle.std.specs.Prelude.{ℕ, zero, suc, Bool, List, [], ◌∷◌, ◌++◌, Some, None, codes, Option, slice_index}
 use Rattle.cards.specs.Table.{pick, deck, suit, rank}
+use Rattle.text.specs.Each.{each_after}
 
 -- a suit's letter, from clubs to spades
 abbrev pub suit_text : ℕ → List ℕ
@@ -25,8 +26,7 @@ card_or_dash (Some c) = card_text c
 
 -- cards that stand after others, a space before each
 abbrev pub more_cards : List ℕ → List ℕ
-more_cards [] = []
-more_cards (c ∷ cs) = (codes " " ++ card_text c) ++ more_cards cs
+more_cards cs = each_after (codes " ") card_text cs
 
 -- a row of cards with single spaces between them, or a dash for a row without cards
 abbrev pub row_text : List ℕ → List ℕ

@@ -1,6 +1,7 @@
 -- Judgements of claims as text, in bytes. Assumes nothing: these are definitions.
-use Rattle.std.specs.Prelude.{ℕ, List, [], ◌∷◌, ◌++◌, codes, decimal}
+use Rattle.std.specs.Prelude.{ℕ, List, ◌++◌, codes, decimal}
 use Rattle.claims.specs.Judging.{Answered, Judging, upholds, fails_by, replies}
+use Rattle.text.specs.Each.{each_after}
 use Rattle.text.specs.Cards.{card_text, card_or_dash}
 
 -- a card and the reply to it
@@ -9,8 +10,7 @@ reply_text a = card_text a.card ++ (codes ": " ++ card_or_dash a.reply)
 
 -- replies, each on a line that follows another
 abbrev pub reply_lines : List Answered → List ℕ
-reply_lines [] = []
-reply_lines (a ∷ rest) = (codes "\n" ++ reply_text a) ++ reply_lines rest
+reply_lines rs = each_after (codes "\n") reply_text rs
 
 -- the worth, that the claim is not upheld, and the replies
 abbrev pub answers_text : ℕ → List Answered → List ℕ

@@ -1,3 +1,4 @@
+pub mod Each
 pub mod Cards
 pub mod Deals
 pub mod Refusals

@@ -1,37 +1,29 @@
 // Hands as text: a row of their cards, from the ace of spades down to the two of clubs.
-ghost use Rattle.std.specs.Prelude.{◌≡◌, ◌≤◌, take, Some};
+ghost use Rattle.std.specs.Prelude.{◌≡◌, Some};
 ghost use Rattle.cards.specs.Table.{deck};
 ghost use Rattle.cards.specs.Bits.{bit};
+ghost use Rattle.cards.specs.Few.{listed};
 ghost use Rattle.cards.specs.Hands.{numbers};
 ghost use Rattle.text.specs.Cards.{cards_below, hand_text};
 
 use crate::Shown;
 use cards::card::Card;
+use cards::few::Few;
 use cards::hand::Hand;
 use std::fmt;
 
-// Cards, of which those from `count` on mean nothing.
-#[derive(Clone, Copy)]
-struct Row {
-    cards: [Card; 52],
-    count: usize,
-}
-
 // The cards of a hand, the highest first.
-fn row_of(hand: Hand) -> Row
-    ensures few { result.count ≤ 52 }
-    ensures cards { numbers (take result.count result.cards) ≡ cards_below (bit hand.bits) deck }
+fn row_of(hand: Hand) -> Few<Card, 52>
+    ensures { numbers (listed result) ≡ cards_below (bit hand.bits) deck }
 {
-    let mut cards = [Card { number: 0 }; 52];
-    let mut count = 0;
+    let mut row = Few::empty(Card { number: 0 });
     for number in (0..52u8).rev() {
         let card = Card { number };
         if hand.holds(card) {
-            cards[count] = card;
-            count += 1;
+            row.push(card).unwrap();
         }
     }
-    Row { cards, count }
+    row
 }
 
 impl fmt::Display for Shown<Hand> {
@@ -39,6 +31,6 @@ impl fmt::Display for Shown<Hand> {
 
     fn fmt<W: fmt::Write>(&self, f: &mut fmt::Formatter<W>) -> fmt::Result {
         let row = row_of(self.0);
-        f.write(Shown(&row.cards[..row.count]))
+        f.write(Shown(row.as_slice()))
     }
 }

@@ -2,9 +2,10 @@
 ghost use Rattle.std.specs.Prelude.{◌≡◌, map, take, Some};
 ghost use Rattle.std.specs.Fmt.{WritesOnOk};
 ghost use Rattle.claims.specs.Judged.{reply_told, judgement_told};
-ghost use Rattle.text.specs.Judgements.{reply_text, reply_lines, answers_text, judgement_text};
+ghost use Rattle.text.specs.Judgements.{reply_text, answers_text, judgement_text};
 
 use crate::Shown;
+use crate::each::show_each;
 use claims::judge::Judgement;
 use claims::replies::Reply;
 use std::fmt;
@@ -19,16 +20,6 @@ impl fmt::Display for Shown<Reply> {
     }
 }
 
-// A line for each reply, a newline before it.
-fn show_replies<W: fmt::Write>(replies: &[Reply], f: &mut fmt::Formatter<W>) -> fmt::Result
-    ensures { WritesOnOk W.write_str_gives f.old result (reply_lines (map reply_told replies.now)) f.new }
-{
-    for reply in replies {
-        write!(f, "\n{}", Shown(*reply))?;
-    }
-    Ok(())
-}
-
 // The worth, that the claim is not upheld, and the replies.
 fn show_answers<W: fmt::Write>(
     worth: u8,
@@ -38,7 +29,7 @@ fn show_answers<W: fmt::Write>(
     ensures { WritesOnOk W.write_str_gives f.old result (answers_text worth (map reply_told replies.now)) f.new }
 {
     write!(f, "worth {worth}\nnot upheld")?;
-    show_replies(replies, f)
+    show_each("\n", replies, f)
 }
 
 // The first so many replies, at most all.

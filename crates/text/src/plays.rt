@@ -61,7 +61,7 @@ fn show_play<W: fmt::Write>(before: usize, play: Play, f: &mut fmt::Formatter<W>
     show_trick(before, play.taker, f)
 }
 
-// Plays after others and so many tricks, a newline before each.
+// Plays after others and so many tricks, a newline before each. Not by `show_each`, as a play's text depends on the tricks before it.
 fn show_more<W: fmt::Write>(before: usize, plays: &[Play], f: &mut fmt::Formatter<W>) -> fmt::Result
     requires { before + length plays.now < 2 ^ 64 }
     ensures { WritesOnOk W.write_str_gives f.old result (more_plays before (notes_of plays.now)) f.new }

@@ -1,8 +1,6 @@
-use Rattle.cards.specs.Hands.{held}
-use Rattle.cards.specs.Seen.{seen}
-use Rattle.text.specs.Deals.{first_line, hand_lines}
-use Rattle.text.proofs.Sofar.{both}
+use Rattle.std.proofs.Common.{refl}
+use Rattle.std.proofs.lemmas.Grind.{put_two}
 use Rattle.text.proofs.deal.ShownBoardDisplay.fmt.Goals as goal
 
 pub returns-clause-writes : goal.returns-clause-writes
-returns-clause-writes g c = both _ (first_line (seen c.args.self.now.0)) (hand_lines (held c.args.self.now.0.hands)) c.in_ok-show_first_line.ensures c.show_hands.ensures
+returns-clause-writes g c = λ plain ok. let first = c.in_ok-show_first_line.ensures plain refl in put_two _ _ _ _ _ _ _ first (c.show_hands.ensures first.plain ok) refl

@@ -1,16 +1,11 @@
-use Rattle.std.proofs.Common.{sym, ap, rules}
-use Rattle.std.proofs.Output.{has_written_of_eq}
-use Rattle.std.proofs.lemmas.List.{nil_from_length}
-use Rattle.cards.specs.Hands.{numbers}
-use Rattle.text.specs.Cards.{row_text}
-use Rattle.text.proofs.Sofar.{both, at_first}
+use Rattle.std.proofs.Common.{codes, refl, arith}
+use Rattle.std.proofs.lemmas.Grind.{common_steps}
+use Rattle.text.specs.Cards.{card_text}
+use Rattle.text.proofs.EachLaws.{by_told}
 use Rattle.text.proofs.row.ShownRefSliceCardDisplay.fmt.Goals as goal
 
-pub returns-in-empty-clause-writes : goal.returns-in-empty-clause-writes
-returns-in-empty-clause-writes g c =
-    λ plain ok. has_written_of_eq _ _ _ _ _ (sym (ap (λ cs. row_text (numbers cs)) (nil_from_length c.args.self.now.0.now (search rules)))) (c.write_str.ensures.writes plain ok)
-
 pub returns-in_ok-write-in-len1-up-clause-writes : goal.returns-in_ok-write-in-len1-up-clause-writes
-returns-in_ok-write-in-len1-up-clause-writes g c =
-    λ plain ok. has_written_of_eq _ _ _ _ _ (sym (at_first (λ cs. row_text (numbers cs)) c.args.self.now.0.now c.first-item.result (search rules) c.first-item.is))
-    (both _ _ _ c.in_ok-write-in-len1-up.ensures.writes c.show_more.ensures plain ok)
+returns-in_ok-write-in-len1-up-clause-writes g c = λ plain ok.
+    let first = c.in_ok-write-in-len1-up.ensures.writes plain refl in
+    let more = by_told (codes " ") card_text (λ c. c.number) _ (c.show_each.ensures _ (λ x. refl) first.plain ok) in
+    grind (arith, common_steps, first, more)
