@@ -10,7 +10,7 @@ pub struct Player {
 }
 
 // Ours is players 0 and 2, the others are 1 and 3.
-#[derive(Clone, Copy)]
+#[derive(Clone, Copy, PartialEq, Eq)]
 pub enum Side {
     Ours,
     Others,
