@@ -1,4 +1,4 @@
--- What a card brings that was tried, and the lowest card of which that passes a test. Assumes nothing: these are definitions.
+-- What a card brings that was tried, and the lowest card whose worth passes a test. Assumes nothing: these are definitions.
 use Rattle.std.specs.Prelude.{◌≡◌, ℕ, ◌<◌, Bool, true, false, Some, None, IfSome, Option}
 use Rattle.cards.specs.Table.{Table, pick, deck}
 use Rattle.tricks.specs.Rules.{may}

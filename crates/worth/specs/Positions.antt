@@ -1,4 +1,4 @@
--- The positions that a search keeps, each with its worth: how one is a number, and when what is kept is true. Assumes nothing: these are definitions.
+-- The positions that a search keeps, each with its worth: how one is a number, and when what is kept is true. Assumes nothing: these are definitions, and one law that a struct's invariant is stated with.
 use Rattle.std.specs.Prelude.{◌≡◌, ℕ, ◌/◌, ◌%◌, ◌^◌, ◌<◌, Bool, true, ◌&&◌, ◌||◌, List, [], length, slice_index}
 use Rattle.std.specs.Coded.{Π_prop, →_prop, Coded-set, coded_ℕ}
 use Rattle.cards.specs.Table.{Table, deck}
@@ -27,7 +27,7 @@ pub record Under (root t : Table) : Type 0 where
 unfoldable pub True : Table → List ℕ → List ℕ → Type 0
 True root keys worths = (i : ℕ) → i < length keys → slice_index worths i ≡ worth_of (position root (slice_index keys i))
 
--- there is one way only for it to be so
+-- it has one proof only, as an invariant must
 pub true_prop : (root : Table) (keys worths : List ℕ) → IsProp (True root keys worths)
 unfolding True
 true_prop root keys worths = Π_prop (λ i. →_prop (Coded-set coded_ℕ (slice_index worths i) (worth_of (position root (slice_index keys i)))))
