@@ -1,5 +1,5 @@
 -- The lowest number below a bound that passes a test. Assumes nothing.
-use Rattle.std.proofs.Common.{◌≡◌, ℕ, ◌+◌, ◌<◌, Bool, true, false, Some, None, Option, refl, ap, ◌∙◌, inl, inr, arith}
+use Rattle.std.proofs.Common.{◌≡◌, ℕ, zero, suc, ◌+◌, ◌<◌, Bool, true, false, Some, None, Option, sym, refl, ap, ◌∙◌, inl, inr, add-one, arith}
 use Rattle.std.proofs.lemmas.Bool.{both_ways, cases_Bool}
 use Rattle.cards.specs.Table.{pick}
 use Rattle.cards.specs.Deal.{first}
@@ -23,6 +23,10 @@ module _ (test : ℕ → Bool) where
 
   pub lowest_takes : (i n : ℕ) → i < n → lowest_below test i ≡ None → test i ≡ true → lowest_below test n ≡ Some i
   lowest_takes i n l so_far y = first_some _ n i i l so_far (ap (λ (b : Bool). pick b (Some i) None) y)
+
+  pub lowest_up : (n : ℕ) → ((d : ℕ) → d < n → test d ≡ false) → lowest_below test n ≡ None
+  lowest_up zero f = lowest_none
+  lowest_up (suc i) f = sym (ap (lowest_below test) (add-one i)) ∙ lowest_skips i (lowest_up i (λ d l. f d (omega arith))) (f i (omega arith))
 
   finds_lowest : (n : ℕ) → Finds (λ p. (p < n) × (test p ≡ true)) (lowest_below test n)
   finds_lowest n =

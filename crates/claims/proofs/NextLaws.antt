@@ -12,7 +12,7 @@ use Rattle.referee.specs.Row.{why}
 use Rattle.referee.specs.Right.{card_at}
 use Rattle.referee.specs.Parts.{Turned}
 use Rattle.referee.proofs.WhyLaws.{nobody, why_right}
-use Rattle.worth.specs.Positions.{Under, True}
+use Rattle.worth.specs.Positions.{Under}
 use Rattle.worth.proofs.PositionLaws.{under_root, under_after}
 use Rattle.claims.specs.Advice.{advice}
 use Rattle.claims.specs.Judging.{own_turn}
@@ -60,28 +60,26 @@ module _ (side : Bool) (u : Table) where
   ]
 
 -- ---- the cards so far
--- the first `count` of an array of cards were played from t on, i cards of the row among them; u is the table reached, and what the slots keep is true
-pub record OnTheWay (side : Bool) (t : Table) (cs cards : List ℕ) (count i : ℕ) (u : Table) (keys worths : List ℕ) : Type 0 where
+-- the first `count` of an array of cards were played from t on, i cards of the row among them; u is the table reached
+pub record OnTheWay (side : Bool) (t : Table) (cs cards : List ℕ) (count i : ℕ) (u : Table) : Type 0 where
   pub room : length cards ≡ 32
   pub left : count + cards_left u ≡ cards_left t
   pub used : i ≤ length cs
   pub runs : (ds : List ℕ) → Runs side u (drop i cs) ds → Runs side t cs (take count cards ++ ds)
   pub halts : (n p : ℕ) → Halts side u (drop i cs) n p → Halts side t cs n (i + p)
   pub under : Under t u
-  pub kept : True t keys worths
 
-pub way_none : (side : Bool) (t : Table) (cs cards keys worths : List ℕ) → length cards ≡ 32 → True t keys worths → OnTheWay side t cs cards 0 0 t keys worths
-way_none side t cs cards keys worths l k = record {
+pub way_none : (side : Bool) (t : Table) (cs cards : List ℕ) → length cards ≡ 32 → OnTheWay side t cs cards 0 0 t
+way_none side t cs cards l = record {
   room = l;
   left = omega arith;
   used = omega arith;
   runs = λ ds r. r;
   halts = λ n p h. let e : p ≡ 0 + p = omega arith in subst (λ (q : ℕ). Halts side t cs n q) e h;
   under = under_root t;
-  kept = k;
 }
 
-module _ (side : Bool) (t : Table) (cs cards : List ℕ) (count i : ℕ) (u : Table) (keys worths : List ℕ) (w : OnTheWay side t cs cards count i u keys worths) where
+module _ (side : Bool) (t : Table) (cs cards : List ℕ) (count i : ℕ) (u : Table) (w : OnTheWay side t cs cards count i u) where
   -- a card that is played finds a place
   pub way_place : (c : ℕ) → cards_left t ≤ 32 → may u c ≡ true → count < 32
   way_place c l m = omega (arith, w.left, one_fewer u c m)
@@ -91,17 +89,17 @@ module _ (side : Bool) (t : Table) (cs cards : List ℕ) (count i : ℕ) (u : Ta
   falls c j x p = let v : cards_left (seen x.board) ≡ cards_left (after u c) = ap cards_left p.table in omega (arith, one_fewer u c p.legal)
 
   -- a card more, x, finds a place, leaves fewer cards, and the play goes on
-  pub record Goes_on (keys' worths' : List ℕ) (x : Next) : Type 0 where
+  pub record Goes_on (x : Next) : Type 0 where
     pub place : count < 32
     pub falls : cards_left (seen x.board) < cards_left u
-    pub way : OnTheWay side t cs (set cards count x.card.number) (count + 1) x.used (seen x.board) keys' worths'
+    pub way : OnTheWay side t cs (set cards count x.card.number) (count + 1) x.used (seen x.board)
 
   -- one card more, x, after which j cards of the row are used: what holds of what comes after it holds of what comes with it
-  way_more : (keys' worths' : List ℕ) → True t keys' worths' → (c j : ℕ) (x : Next) → NextPlayed u c j x → count < 32 → j ≤ length cs →
+  way_more : (c j : ℕ) (x : Next) → NextPlayed u c j x → count < 32 → j ≤ length cs →
       ((ds : List ℕ) → Runs side (after u c) (drop j cs) ds → Runs side u (drop i cs) (c ∷ ds)) →
       ((n p : ℕ) → Halts side (after u c) (drop j cs) n p → Halts side t cs n (j + p)) →
-      OnTheWay side t cs (set cards count x.card.number) (count + 1) x.used (seen x.board) keys' worths'
-  way_more keys' worths' k c j x p l few runs halts =
+      OnTheWay side t cs (set cards count x.card.number) (count + 1) x.used (seen x.board)
+  way_more c j x p l few runs halts =
       let card = p.card in
       let spent = p.spent in
       record {
@@ -119,25 +117,24 @@ module _ (side : Bool) (t : Table) (cs cards : List ℕ) (count i : ℕ) (u : Ta
             let h' = subst (λ (y : ℕ). Halts side (after u c) (drop y cs) n q) spent (subst (λ (v : Table). Halts side v (drop x.used cs) n q) p.table h) in
             subst (λ (y : ℕ). Halts side t cs n (y + q)) (sym spent) (halts n q h');
         under = under_after t u (seen x.board) c w.under p.table;
-        kept = k;
       }
 
   -- the card advised
-  pub way_advised : (keys' worths' : List ℕ) → True t keys' worths' → (c : ℕ) (x : Next) → own_card side u ≡ Some c → NextPlayed u c i x → count < 32 →
-      OnTheWay side t cs (set cards count x.card.number) (count + 1) x.used (seen x.board) keys' worths'
-  way_advised keys' worths' k c x e p l =
+  pub way_advised : (c : ℕ) (x : Next) → own_card side u ≡ Some c → NextPlayed u c i x → count < 32 →
+      OnTheWay side t cs (set cards count x.card.number) (count + 1) x.used (seen x.board)
+  way_advised c x e p l =
       let (o, a) = own_advised side u c e in
-      way_more keys' worths' k c i x p l w.used (λ ds r. by_advice c o a r) (λ n q h. w.halts n q (past_advice c o a h))
+      way_more c i x p l w.used (λ ds r. by_advice c o a r) (λ n q h. w.halts n q (past_advice c o a h))
 
   -- where none is, with m tricks left
   module _ (m : ℕ) (s : Sound u m) (e : own_card side u ≡ None) where
     -- the next card of the row
-    pub way_row : (keys' worths' : List ℕ) → True t keys' worths' → (x : Next) → i < length cs → NextPlayed u (card_at cs i) (i + 1) x → count < 32 →
-        OnTheWay side t cs (set cards count x.card.number) (count + 1) x.used (seen x.board) keys' worths'
-    way_row keys' worths' k x there p l =
+    pub way_row : (x : Next) → i < length cs → NextPlayed u (card_at cs i) (i + 1) x → count < 32 →
+        OnTheWay side t cs (set cards count x.card.number) (count + 1) x.used (seen x.board)
+    way_row x there p l =
         let c = card_at cs i in
         let o = row_plays side u m c s e p.legal in
-        way_more keys' worths' k c (i + 1) x p l (omega arith)
+        way_more c (i + 1) x p l (omega arith)
         (λ ds r. subst (λ (xs : List ℕ). Runs side u xs (c ∷ ds)) (sym (at_drop_more (λ (xs : List ℕ). xs) cs i 0 there)) (by_row c o p.legal r))
         (λ n q h.
         let f : i + suc q ≡ (i + 1) + q = omega arith in
@@ -162,13 +159,13 @@ module _ (side : Bool) (t : Table) (cs cards : List ℕ) (count i : ℕ) (u : Ta
 
   -- what was told of the next play, o being the card advised: a card, the end, or a refusal
   module _ (m : ℕ) (s : Sound u m) where
-    pub way_goes : (keys' worths' : List ℕ) → True t keys' worths' → cards_left t ≤ 32 → (o : Option ℕ) → own_card side u ≡ o → (x : Next) → NextTold o u cs i (Ok (Some x)) → Goes_on keys' worths' x
-    way_goes keys' worths' k few None e x (there, p) =
+    pub way_goes : cards_left t ≤ 32 → (o : Option ℕ) → own_card side u ≡ o → (x : Next) → NextTold o u cs i (Ok (Some x)) → Goes_on x
+    way_goes few None e x (there, p) =
         let l = way_place (card_at cs i) few p.legal in
-        record { place = l; falls = falls (card_at cs i) (i + 1) x p; way = way_row m s e keys' worths' k x there p l }
-    way_goes keys' worths' k few (Some c) e x p =
+        record { place = l; falls = falls (card_at cs i) (i + 1) x p; way = way_row m s e x there p l }
+    way_goes few (Some c) e x p =
         let l = way_place c few p.legal in
-        record { place = l; falls = falls c i x p; way = way_advised keys' worths' k c x e p l }
+        record { place = l; falls = falls c i x p; way = way_advised c x e p l }
 
     pub way_over : (o : Option ℕ) → own_card side u ≡ o → NextTold o u cs i (Ok None) → Runs side t cs (take count cards)
     way_over None e all = way_ends m s e all

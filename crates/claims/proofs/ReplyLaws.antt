@@ -11,7 +11,6 @@ use Rattle.tricks.specs.Taken.{taker_of, taken_by}
 use Rattle.tricks.specs.Moves.{After}
 use Rattle.tricks.specs.declared.play.Played.{Played}
 use Rattle.tricks.proofs.MayLaws.{may_parts}
-use Rattle.worth.specs.Positions.{True}
 use Rattle.tricks.proofs.CardsLeft.{own_cards}
 use Rattle.claims.specs.Advice.{keeps, advice}
 use Rattle.claims.specs.Failing.{failing, takes_by}
@@ -98,33 +97,32 @@ replies_next side n k t i m e =
     ap (replies_below side n k t) (add-one i)
     ∙ ap (λ (b : Bool). pick b (replies_below side n k t i ++ (answered side n k t i ∷ [])) (replies_below side n k t i)) e
 
--- the first `size` of an array of eight are the replies to the cards below i, and what the slots keep is true
-pub record RowSoFar (root t : Table) (side : Bool) (n k i : ℕ) (row : List Reply) (size : ℕ) (keys worths : List ℕ) : Type 0 where
+-- the first `size` of an array of eight are the replies to the cards below i
+pub record RowSoFar (t : Table) (side : Bool) (n k i : ℕ) (row : List Reply) (size : ℕ) : Type 0 where
   pub eight : length row ≡ most_tricks
   pub many : size ≡ count (may t) i
   pub told : row_told row size ≡ replies_below side n k t i
-  pub kept : True root keys worths
 
-module _ (root t : Table) (side : Bool) (n k : ℕ) where
-  pub row_none : (row : List Reply) (keys worths : List ℕ) → length row ≡ most_tricks → True root keys worths → RowSoFar root t side n k 0 row 0 keys worths
+module _ (t : Table) (side : Bool) (n k : ℕ) where
+  pub row_none : (row : List Reply) → length row ≡ most_tricks → RowSoFar t side n k 0 row 0
   unfolding count replies_below
-  row_none row keys worths e h = record { eight = e; many = refl; told = refl; kept = h }
+  row_none row e = record { eight = e; many = refl; told = refl }
 
   -- card x, the next
-  module _ (i x : ℕ) (next : x ≡ i) (row : List Reply) (size : ℕ) (keys worths : List ℕ) (r : RowSoFar root t side n k i row size keys worths) where
+  module _ (i x : ℕ) (next : x ≡ i) (row : List Reply) (size : ℕ) (r : RowSoFar t side n k i row size) where
     -- it may not be played
-    pub row_skips : (keys' worths' : List ℕ) → True root keys' worths' → may t x ≡ false → RowSoFar root t side n k (i + 1) row size keys' worths'
-    row_skips keys' worths' h m =
+    pub row_skips : may t x ≡ false → RowSoFar t side n k (i + 1) row size
+    row_skips m =
         let illegal : may t i ≡ false = ap (may t) (sym next) ∙ m in
-        record { eight = r.eight; many = omega (arith, r.many, count_next (may t) i, ap one illegal); told = r.told ∙ sym (replies_next side n k t i false illegal); kept = h }
+        record { eight = r.eight; many = omega (arith, r.many, count_next (may t) i, ap one illegal); told = r.told ∙ sym (replies_next side n k t i false illegal) }
 
     -- it may, and finds a place
     pub row_place : InOrder t n → x < deck → may t x ≡ true → size < most_tricks
     row_place o l m = omega (arith, r.many, may_few t n o, count_next (may t) i, ap one (ap (may t) (sym next) ∙ m), count_up (may t) (i + 1) deck (omega arith))
 
-    pub row_more : (keys' worths' : List ℕ) → True root keys' worths' → (y : Reply) → size < most_tricks → may t x ≡ true → reply_told y ≡ answered side n k t x →
-        RowSoFar root t side n k (i + 1) (set row size y) (size + 1) keys' worths'
-    row_more keys' worths' h y l m e =
+    pub row_more : (y : Reply) → size < most_tricks → may t x ≡ true → reply_told y ≡ answered side n k t x →
+        RowSoFar t side n k (i + 1) (set row size y) (size + 1)
+    row_more y l m e =
         let legal : may t i ≡ true = ap (may t) (sym next) ∙ m in
         record {
           eight = length-set row size y ∙ r.eight;
@@ -133,9 +131,8 @@ module _ (root t : Table) (side : Bool) (n k : ℕ) where
               ∙ map_push reply_told (take size row) y
               ∙ ap₂ (λ (rs : List Answered) (a : Answered). rs ++ (a ∷ [])) r.told (e ∙ ap (answered side n k t) next)
               ∙ sym (replies_next side n k t i true legal);
-          kept = h;
         }
 
 -- there are no more replies than cards that may be played
-pub row_few : (root t : Table) (side : Bool) (n k i : ℕ) (row : List Reply) (size : ℕ) (keys worths : List ℕ) → RowSoFar root t side n k i row size keys worths → InOrder t n → i ≤ deck → size ≤ most_tricks
-row_few root t side n k i row size keys worths r o l = omega (arith, r.many, may_few t n o, count_up (may t) i deck l)
+pub row_few : (t : Table) (side : Bool) (n k i : ℕ) (row : List Reply) (size : ℕ) → RowSoFar t side n k i row size → InOrder t n → i ≤ deck → size ≤ most_tricks
+row_few t side n k i row size r o l = omega (arith, r.many, may_few t n o, count_up (may t) i deck l)

@@ -1,44 +1,29 @@
--- Cards tried one by one, lowest first, until one passes a test. Assumes nothing.
-use Rattle.std.proofs.Common.{◌≡◌, ℕ, ◌+◌, ◌<◌, Bool, true, false, not, ◌&&◌, eqb, List, Some, None, sym, refl, ap, ◌∙◌}
-use Rattle.cards.specs.Table.{Table, pick, deck}
+-- The lowest card that passes a test, found by trying the cards. Assumes nothing.
+use Rattle.std.proofs.Common.{◌≡◌, ℕ, ◌<◌, Bool, true, false, ◌&&◌, Some, None, Option, sym, ap, ◌∙◌, inl, inr}
+use Rattle.std.proofs.lemmas.Bool.{cases_Bool, and_from, and_left}
+use Rattle.cards.specs.Table.{Table, deck}
 use Rattle.tricks.specs.Rules.{may}
-use Rattle.worth.specs.Value.{worth_of}
-use Rattle.worth.specs.Positions.{True}
-use Rattle.claims.specs.Claims.{upheld}
-use Rattle.claims.specs.Advice.{lowest_below, worth_by, keeps}
-use Rattle.claims.specs.Failing.{fails}
-use Rattle.claims.specs.Tried.{tried, brings, breaks}
-use Rattle.claims.proofs.LowestLaws.{lowest_none, lowest_skips, lowest_takes}
+use Rattle.tricks.proofs.MayLaws.{may_parts}
+use Rattle.claims.specs.Advice.{lowest_below, worth_by}
+use Rattle.claims.specs.Tried.{LowestCard}
+use Rattle.claims.proofs.LowestLaws.{lowest_takes, lowest_up}
 
--- ---- what was tried says whether a card keeps the worth, and whether it makes a claim fail
-pub keeps_tried : (t : Table) (c : ℕ) → keeps t c ≡ brings (tried t c) (worth_of t)
-keeps_tried t c = by (may t c)
-  where
-    by : (m : Bool) → (m && eqb (worth_by t c) (worth_of t)) ≡ brings (pick m (Some (worth_by t c)) None) (worth_of t)
-    by true = refl
-    by false = refl
+-- may card c be played, and does what it brings pass
+abbrev pub may_pass : Table → (ℕ → Bool) → ℕ → Bool
+may_pass t passes c = may t c && passes (worth_by t c)
 
-pub fails_tried : (side : Bool) (n k : ℕ) (t : Table) (c : ℕ) → fails side n k t c ≡ breaks side n k (tried t c)
-fails_tried side n k t c = by (may t c)
-  where
-    by : (m : Bool) → (m && not (upheld side n k (worth_by t c))) ≡ breaks side n k (pick m (Some (worth_by t c)) None)
-    by true = refl
-    by false = refl
+-- if the test says just what passes, what was found is the lowest card that may be played and passes
+module _ (passes : ℕ → Bool) where
+  no_pass : (Says : ℕ → Bool → Type 0) (t : Table) (n : ℕ) → ((c : ℕ) → c < n → may t c ≡ true → Says (worth_by t c) false) → ((w : ℕ) (b : Bool) → Says w b → b ≡ passes w) →
+      (d : ℕ) → d < n → may_pass t passes d ≡ false
+  no_pass Says t n none just d l = elim (cases_Bool (may t d)) [
+    | inl m ↦ ap (λ (x : Bool). x && passes (worth_by t d)) m ∙ sym (just _ false (none d l m))
+    | inr m ↦ and_left _ _ m
+  ]
 
--- ---- the cards so far
--- none of the cards below i passes, and what the slots keep is true
-pub record Passed (root : Table) (test : ℕ → Bool) (i : ℕ) (keys worths : List ℕ) : Type 0 where
-  pub none : lowest_below test i ≡ None
-  pub kept : True root keys worths
-
-module _ (root : Table) (test : ℕ → Bool) where
-  pub passed_none : (keys worths : List ℕ) → True root keys worths → Passed root test 0 keys worths
-  passed_none keys worths k = record { none = lowest_none test; kept = k }
-
-  -- card x, the next, does not pass, or does
-  module _ (i x : ℕ) (next : x ≡ i) (keys worths : List ℕ) (p : Passed root test i keys worths) where
-    pub passed_more : (keys' worths' : List ℕ) → test x ≡ false → True root keys' worths' → Passed root test (i + 1) keys' worths'
-    passed_more keys' worths' e k = record { none = lowest_skips test i p.none (ap test (sym next) ∙ e); kept = k }
-
-    pub passed_here : x < deck → test x ≡ true → Some x ≡ lowest_below test deck
-    passed_here l e = sym (lowest_takes test x deck l (ap (lowest_below test) next ∙ p.none) e)
+  pub lowest_told : {Says : ℕ → Bool → Type 0} {t : Table} (o : Option ℕ) → LowestCard Says t o → ((w : ℕ) (b : Bool) → Says w b → b ≡ passes w) →
+      o ≡ lowest_below (may_pass t passes) deck
+  lowest_told {Says = Says} {t = t} None f just = sym (lowest_up (may_pass t passes) deck (no_pass Says t deck f.before just))
+  lowest_told {Says = Says} {t = t} (Some c) f just =
+      let (legal, says) = f.passes in
+      sym (lowest_takes (may_pass t passes) c deck (may_parts t c legal).card (lowest_up (may_pass t passes) c (no_pass Says t c f.before just)) (and_from _ _ legal (sym (just _ true says))))

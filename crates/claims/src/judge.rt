@@ -1,7 +1,8 @@
 // The judgement of a claim, with memory that is lent for the positions.
-ghost use Rattle.std.specs.Prelude.{◌≡◌, ◌<◌, length, IfOk, nat_le};
+ghost use Rattle.std.specs.Prelude.{◌≡◌, IfOk, nat_le};
 ghost use Rattle.cards.specs.Seen.{seen, tricks_left};
-ghost use Rattle.worth.specs.Positions.{True};
+ghost use Rattle.worth.specs.Positions.{Under};
+ghost use Rattle.worth.specs.Lent.{SameSlots};
 ghost use Rattle.claims.specs.Claimed.{claims_side, claims_tricks};
 ghost use Rattle.claims.specs.Judging.{judging};
 ghost use Rattle.claims.specs.Judged.{judgement_told, Counted, ClaimJudged};
@@ -15,7 +16,7 @@ use cards::card::Card;
 use cards::refusal::{Lent, Refusal};
 use tricks::turn::tricks_left;
 use worth::call::is_usable;
-use worth::positions::clear;
+use worth::positions::Positions;
 use worth::search::worth_under;
 
 // Each with the tricks that our side takes of those left, whoever claims.
@@ -48,23 +49,21 @@ fn is_within(claim: Claim, left: u8) -> bool
     }
 }
 
-// The judgement of a claim at the root.
-fn judge_at_root(root: &Board, claim: Claim, keys: &mut [u64], worths: &mut [u8]) -> Judgement
-    requires some { 0 < length keys.old }
-    requires same { length keys.old ≡ length worths.old }
-    requires kept { True (seen root.now) keys.old worths.old }
-    ensures judged { judgement_told result ≡ judging (claims_side claim) (tricks_left root.now) (claims_tricks claim) (seen root.now) }
+// The judgement of a claim at a board that came of the root.
+fn judge_under(board: &Board, claim: Claim, positions: &mut Positions<'_>) -> Judgement
+    requires { Under (seen positions.old.root) (seen board.now) }
+    ensures judged { judgement_told result ≡ judging (claims_side claim) (tricks_left board.now) (claims_tricks claim) (seen board.now) }
     ensures counted { Counted result }
-    ensures kept { True (seen root.now) keys.new worths.new }
+    ensures same { SameSlots positions.old positions.new }
 {
-    let left = tricks_left(root);
-    let worth = worth_under(root, root, keys, worths);
+    let left = tricks_left(board);
+    let worth = worth_under(board, positions);
     if upholds(claim, left, worth) {
-        let card = advice_under(root, root, keys, worths);
+        let card = advice_under(board, positions);
         return Judgement::Upheld { worth, card };
     }
-    if is_claimers_turn(claim, root) {
-        let row = replies_under(root, claim, root, keys, worths);
+    if is_claimers_turn(claim, board) {
+        let row = replies_under(board, claim, positions);
         let replies = row.replies;
         return Judgement::Replies {
             worth,
@@ -72,7 +71,7 @@ fn judge_at_root(root: &Board, claim: Claim, keys: &mut [u64], worths: &mut [u8]
             count: row.count,
         };
     }
-    let card = failing_under(root, claim, left, root, keys, worths);
+    let card = failing_under(board, claim, left, positions);
     Judgement::Fails { worth, card }
 }
 
@@ -92,6 +91,6 @@ pub fn judge(
     if !is_usable(positions, worths) {
         return Err(Refusal::Short(Lent::Positions));
     }
-    clear(board, positions, worths);
-    Ok(judge_at_root(board, claim, positions, worths))
+    let mut kept = Positions::new(board, positions, worths);
+    Ok(judge_under(board, claim, &mut kept))
 }

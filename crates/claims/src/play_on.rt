@@ -1,9 +1,10 @@
 // Playing on from a table: one side goes by advice, the other plays the cards of a row, to the end or to the row's end.
-ghost use Rattle.std.specs.Prelude.{◌≡◌, ◌+◌, ◌<◌, ◌≤◌, false, length, MatchOption};
+ghost use Rattle.std.specs.Prelude.{◌≡◌, ◌+◌, ◌≤◌, false, length, MatchOption};
 ghost use Rattle.cards.specs.Seen.{seen};
 ghost use Rattle.tricks.specs.Rules.{may};
 ghost use Rattle.equals.specs.Covered.{card_told};
-ghost use Rattle.worth.specs.Positions.{Under, True};
+ghost use Rattle.worth.specs.Positions.{Under};
+ghost use Rattle.worth.specs.Lent.{SameSlots};
 ghost use Rattle.claims.specs.Sides.{is_ours};
 ghost use Rattle.claims.specs.PlayOn.{own_card};
 ghost use Rattle.claims.specs.Nexts.{NextPlayed, ByRow, NextTold, CourseTold};
@@ -18,7 +19,7 @@ use cards::refusal::{Lent, Refusal};
 use referee::row::{Play, has_places, play_at, play_row};
 use tricks::play::play;
 use worth::call::is_usable;
-use worth::positions::clear;
+use worth::positions::Positions;
 
 // The table where the play stopped, and how many plays there were.
 #[derive(Clone, Copy)]
@@ -43,24 +44,15 @@ struct Course {
 }
 
 // The card advised to a side, where it is to play and has one.
-fn own_advice(
-    board: &Board,
-    side: Side,
-    root: &Board,
-    keys: &mut [u64],
-    worths: &mut [u8],
-) -> Option<Card>
-    requires under { Under (seen root.now) (seen board.now) }
-    requires some { 0 < length keys.old }
-    requires same { length keys.old ≡ length worths.old }
-    requires kept { True (seen root.now) keys.old worths.old }
+fn own_advice(board: &Board, side: Side, positions: &mut Positions<'_>) -> Option<Card>
+    requires { Under (seen positions.old.root) (seen board.now) }
     ensures card { card_told result ≡ own_card (is_ours side) (seen board.now) }
-    ensures kept { True (seen root.now) keys.new worths.new }
+    ensures same { SameSlots positions.old positions.new }
 {
     if !is_turn_of(side, board) {
         return None;
     }
-    advice_under(board, root, keys, worths)
+    advice_under(board, positions)
 }
 
 // The play of a card that uses none of the row, if it may be played.
@@ -97,19 +89,14 @@ fn next_play(
     side: Side,
     row: &[u8],
     used: usize,
-    root: &Board,
-    keys: &mut [u64],
-    worths: &mut [u8],
+    positions: &mut Positions<'_>,
 ) -> Result<Option<Next>, Refusal>
     requires used { used ≤ length row.now }
-    requires under { Under (seen root.now) (seen board.now) }
-    requires some { 0 < length keys.old }
-    requires same { length keys.old ≡ length worths.old }
-    requires kept { True (seen root.now) keys.old worths.old }
+    requires under { Under (seen positions.old.root) (seen board.now) }
     ensures next { NextTold (own_card (is_ours side) (seen board.now)) (seen board.now) row.now used result }
-    ensures kept { True (seen root.now) keys.new worths.new }
+    ensures same { SameSlots positions.old positions.new }
 {
-    match own_advice(board, side, root, keys, worths) {
+    match own_advice(board, side, positions) {
         Some(card) => Ok(by_advice(board, card, used)),
         None => by_row(board, row, used),
     }
@@ -120,20 +107,17 @@ fn course_from(
     board: &Board,
     side: Side,
     row: &[u8],
-    keys: &mut [u64],
-    worths: &mut [u8],
+    positions: &mut Positions<'_>,
 ) -> Result<Course, Refusal>
-    requires some { 0 < length keys.old }
-    requires same { length keys.old ≡ length worths.old }
-    requires kept { True (seen board.now) keys.old worths.old }
+    requires { Under (seen positions.old.root) (seen board.now) }
     ensures course { CourseTold (is_ours side) (seen board.now) row.now result }
-    ensures kept { True (seen board.now) keys.new worths.new }
+    ensures same { SameSlots positions.old positions.new }
 {
     let mut cards = [0u8; 32];
     let mut count = 0usize;
     let mut used = 0usize;
     let mut table = *board;
-    while let Some(next) = next_play(&table, side, row, used, board, keys, worths)? {
+    while let Some(next) = next_play(&table, side, row, used, positions)? {
         cards[count] = next.card.number;
         count += 1;
         used = next.used;
@@ -159,8 +143,8 @@ pub fn play_on(
     if !is_usable(positions, worths) {
         return Err(Refusal::Short(Lent::Positions));
     }
-    clear(board, positions, worths);
-    let course = course_from(board, side, row, positions, worths)?;
+    let mut kept = Positions::new(board, positions, worths);
+    let course = course_from(board, side, row, &mut kept)?;
     let table = play_row(board, &course.cards[0..course.count], plays)?;
     Ok(Line {
         board: table,

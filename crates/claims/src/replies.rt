@@ -1,25 +1,27 @@
 // What the other side replies to the cards of the side that claims: the lowest card with which the claim fails.
-ghost use Rattle.std.specs.Prelude.{◌≡◌, ◌-◌, ◌<◌, ◌≤◌, true, false, length, MatchOption, ◌==◌};
+ghost use Rattle.std.specs.Prelude.{◌≡◌, ◌-◌, ◌≤◌, true, false, MatchOption};
 ghost use Rattle.cards.specs.Table.{deck, most_tricks};
-ghost use Rattle.cards.specs.Numbers.{side_number};
 ghost use Rattle.cards.specs.Seen.{seen, tricks_left};
 ghost use Rattle.tricks.specs.Rules.{may};
 ghost use Rattle.tricks.specs.Taken.{taker_of};
 ghost use Rattle.equals.specs.Covered.{card_told};
-ghost use Rattle.worth.specs.Positions.{Under, True};
+ghost use Rattle.worth.specs.Positions.{Under};
+ghost use Rattle.worth.specs.Lent.{SameSlots};
 ghost use Rattle.claims.specs.Claimed.{claims_side, claims_tricks};
-ghost use Rattle.claims.specs.Judging.{is_own, own_turn, side_takes, next_failing, answered, replies_below};
+ghost use Rattle.claims.specs.Judging.{own_turn, side_takes, next_failing, answered, replies_below};
 ghost use Rattle.claims.specs.Judged.{reply_told, row_told};
 
 use crate::advice::advice_under;
 use crate::claim::Claim;
 use crate::failing::failing_under;
 use crate::tried::nth_card;
+use crate::turns::is_turn_of;
 use cards::board::Board;
 use cards::card::Card;
-use cards::player::{Player, Side};
+use cards::player::Player;
 use tricks::play::play;
-use tricks::turn::{tricks_left, turn};
+use tricks::turn::tricks_left;
+use worth::positions::Positions;
 
 // A card of the side that claims, and the other side's card at its next turn, if it has one.
 #[derive(Clone, Copy)]
@@ -35,34 +37,20 @@ pub(crate) struct Row {
     pub(crate) count: u8,
 }
 
-// Whether a side is the one that claims.
-fn is_claimer(claim: Claim, side: Side) -> bool
-    ensures { result ≡ is_own (claims_side claim) (side_number side == 0) }
-{
-    match side {
-        Side::Ours => matches!(claim, Claim::Ours(_)),
-        Side::Others => matches!(claim, Claim::Others(_)),
-    }
-}
-
 // Whether the side that claims is to play.
 pub(crate) fn is_claimers_turn(claim: Claim, board: &Board) -> bool
     ensures { result ≡ own_turn (claims_side claim) (seen board.now) }
 {
-    is_claimer(claim, turn(board).side())
+    is_turn_of(claim.side(), board)
 }
 
 // The tricks of its claim that a side has once this player took a trick: one or none.
 fn taken(claim: Claim, taker: Option<Player>) -> u8
     ensures { result ≡ side_takes (claims_side claim) (taker_of taker) }
 {
-    let Some(player) = taker else {
-        return 0;
-    };
-    if is_claimer(claim, player.side()) {
-        1
-    } else {
-        0
+    match taker {
+        Some(player) if player.side() == claim.side() => 1,
+        _ => 0,
     }
 }
 
@@ -78,79 +66,38 @@ fn claim_less(claim: Claim, tricks: u8) -> Claim
 }
 
 // At the other side's next turn, the lowest card with which the claim fails. The side that claims is taken to lead by the advice.
-fn next_failing(
-    board: &Board,
-    claim: Claim,
-    root: &Board,
-    keys: &mut [u64],
-    worths: &mut [u8],
-) -> Option<Card>
-    requires under { Under (seen root.now) (seen board.now) }
-    requires some { 0 < length keys.old }
-    requires same { length keys.old ≡ length worths.old }
-    requires kept { True (seen root.now) keys.old worths.old }
+fn next_failing(board: &Board, claim: Claim, positions: &mut Positions<'_>) -> Option<Card>
+    requires { Under (seen positions.old.root) (seen board.now) }
     ensures card { card_told result ≡ next_failing (claims_side claim) (tricks_left board.now) (claims_tricks claim) (seen board.now) }
-    ensures kept { True (seen root.now) keys.new worths.new }
+    ensures same { SameSlots positions.old positions.new }
 {
     if !is_claimers_turn(claim, board) {
-        return failing_under(board, claim, tricks_left(board), root, keys, worths);
+        return failing_under(board, claim, tricks_left(board), positions);
     }
-    let Some(lead) = advice_under(board, root, keys, worths) else {
-        return None;
-    };
-    let Some(led) = play(board, lead) else {
-        return None;
-    };
+    let lead = advice_under(board, positions)?;
+    let led = play(board, lead)?;
     let rest = claim_less(claim, taken(claim, led.taker));
-    failing_under(
-        &led.board,
-        rest,
-        tricks_left(&led.board),
-        root,
-        keys,
-        worths,
-    )
+    failing_under(&led.board, rest, tricks_left(&led.board), positions)
 }
 
 // A card of the side that claims and the reply to it, if the card may be played.
-fn reply_to(
-    board: &Board,
-    card: Card,
-    claim: Claim,
-    root: &Board,
-    keys: &mut [u64],
-    worths: &mut [u8],
-) -> Option<Reply>
-    requires under { Under (seen root.now) (seen board.now) }
-    requires some { 0 < length keys.old }
-    requires same { length keys.old ≡ length worths.old }
-    requires kept { True (seen root.now) keys.old worths.old }
+fn reply_to(board: &Board, card: Card, claim: Claim, positions: &mut Positions<'_>) -> Option<Reply>
+    requires { Under (seen positions.old.root) (seen board.now) }
     ensures reply { MatchOption result (may (seen board.now) card.number ≡ false) (λ x. (may (seen board.now) card.number ≡ true) × (reply_told x ≡ answered (claims_side claim) (tricks_left board.now) (claims_tricks claim) (seen board.now) card.number)) }
-    ensures kept { True (seen root.now) keys.new worths.new }
+    ensures same { SameSlots positions.old positions.new }
 {
-    let Some(played) = play(board, card) else {
-        return None;
-    };
+    let played = play(board, card)?;
     let rest = claim_less(claim, taken(claim, played.taker));
-    let reply = next_failing(&played.board, rest, root, keys, worths);
+    let reply = next_failing(&played.board, rest, positions);
     Some(Reply { card, reply })
 }
 
 // The replies to all cards that may be played, lowest first.
-pub(crate) fn replies_under(
-    board: &Board,
-    claim: Claim,
-    root: &Board,
-    keys: &mut [u64],
-    worths: &mut [u8],
-) -> Row
-    requires under { Under (seen root.now) (seen board.now) }
-    requires some { 0 < length keys.old }
-    requires same { length keys.old ≡ length worths.old }
-    requires kept { True (seen root.now) keys.old worths.old }
+pub(crate) fn replies_under(board: &Board, claim: Claim, positions: &mut Positions<'_>) -> Row
+    requires { Under (seen positions.old.root) (seen board.now) }
     ensures row { row_told result.replies result.count ≡ replies_below (claims_side claim) (tricks_left board.now) (claims_tricks claim) (seen board.now) deck }
     ensures few { result.count ≤ most_tricks }
-    ensures kept { True (seen root.now) keys.new worths.new }
+    ensures same { SameSlots positions.old positions.new }
 {
     let any = Reply {
         card: Card { number: 0 },
@@ -159,7 +106,7 @@ pub(crate) fn replies_under(
     let mut replies = [any; 8];
     let mut count = 0u8;
     for number in 0..52u8 {
-        if let Some(reply) = reply_to(board, nth_card(number), claim, root, keys, worths) {
+        if let Some(reply) = reply_to(board, nth_card(number), claim, positions) {
             replies[count as usize] = reply;
             count += 1;
         }

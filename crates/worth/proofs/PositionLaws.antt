@@ -13,6 +13,8 @@ use Rattle.cards.proofs.CountLaws.{count_none}
 use Rattle.cards.proofs.Order.{in_order}
 use Rattle.tricks.specs.Rules.{after}
 use Rattle.worth.specs.Value.{worth_of}
+use Rattle.worth.specs.Lent.{SameSlots}
+use Rattle.worth.specs.declared.positions.Positions.{Positions}
 use Rattle.worth.specs.Positions.{held, Key, position, Under, True}
 use Rattle.worth.proofs.ValueLaws.{worth_none}
 
@@ -25,6 +27,16 @@ unfolding after
 under_after root t u c h e =
     let go : Under root (after t c) = record { trump = h.trump; cards = λ p x held. h.cards p x (and_parts _ _ held).0 } in
     subst (Under root) (sym e) go
+
+pub under_trans : (root t u : Table) → Under root t → Under t u → Under root u
+under_trans root t u h k = record { trump = k.trump ∙ h.trump; cards = λ p c e. h.cards p c (k.cards p c e) }
+
+-- positions that were just made for a root, and positions that are kept on, of the same root
+pub under_new : (root b : Board) → root ≡ b → Under (seen root) (seen b)
+under_new root b e = subst (λ (r : Board). Under (seen r) (seen b)) (sym e) (under_root (seen b))
+
+pub under_same : (p q : Positions) → SameSlots p q → (t : Table) → Under (seen p.root) t → Under (seen q.root) t
+under_same p q s t = subst (λ (b : Board). Under (seen b) t) (sym s.root)
 
 -- ---- the key of a position stands for it
 -- a card that is held is in the hand of a player

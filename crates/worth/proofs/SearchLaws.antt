@@ -1,5 +1,5 @@
 -- The window so far, as the search goes through the cards, and the tables that it goes on to. Assumes nothing.
-use Rattle.std.proofs.Common.{◌≡◌, ℕ, ◌+◌, ◌-◌, ◌%◌, ◌<◌, ◌≤◌, min, Bool, true, false, eqb, List, [], ◌∷◌, ◌++◌, length, Some, None, Option, sym, refl, ap, ◌∙◌, subst, ap₂, arith}
+use Rattle.std.proofs.Common.{◌≡◌, ℕ, ◌+◌, ◌-◌, ◌%◌, ◌<◌, ◌≤◌, min, Bool, true, false, eqb, [], ◌∷◌, ◌++◌, length, Some, None, Option, sym, refl, ap, ◌∙◌, subst, ap₂, arith}
 use Rattle.cards.specs.Table.{Table, pick, one, deck, Sound, cards_left}
 use Rattle.cards.specs.Seen.{seen, tricks_left}
 use Rattle.cards.specs.declared.board.Board.{Board}
@@ -9,7 +9,6 @@ use Rattle.tricks.specs.Taken.{taker_of, gain_of}
 use Rattle.tricks.specs.Moves.{After}
 use Rattle.tricks.specs.declared.play.Played.{Played}
 use Rattle.worth.specs.Value.{worst, best_below, worth_of}
-use Rattle.worth.specs.Positions.{True}
 use Rattle.worth.specs.Search.{Enough, left_with, clamp, exact}
 use Rattle.tricks.proofs.CardsLeft.{cards_are, one_fewer}
 use Rattle.worth.proofs.BestLaws.{by_card, best_none, best_takes, best_skips}
@@ -70,29 +69,27 @@ module _ (b : Board) (c : ℕ) (p : Played) (played : After b c p) where
 
 -- ---- the window so far
 -- of the cards of a set those from i on were looked at, of table t with n tricks left:
--- its worth within low and high is the best of the cards below i within floor and ceiling, and what the slots keep is true
-pub record SoFar (root t : Table) (n low high : ℕ) (set : ℕ → Bool) (i floor ceiling : ℕ) (keys worths : List ℕ) : Type 0 where
+-- its worth within low and high is the best of the cards below i within floor and ceiling
+pub record SoFar (t : Table) (n low high : ℕ) (set : ℕ → Bool) (i floor ceiling : ℕ) : Type 0 where
   pub order : floor ≤ ceiling
   pub most : ceiling ≤ n
   pub worth : clamp low high (worth_of t) ≡ clamp floor ceiling (best_below set worth_of n t i)
-  pub kept : True root keys worths
 
-module _ (root t : Table) (n low high : ℕ) (set : ℕ → Bool) where
+module _ (t : Table) (n low high : ℕ) (set : ℕ → Bool) where
   -- a card that is not looked at
-  pub so_far_skips : (i j floor ceiling : ℕ) (keys worths : List ℕ) → i + 1 ≡ j → set i ≡ false → SoFar root t n low high set j floor ceiling keys worths →
-      SoFar root t n low high set i floor ceiling keys worths
-  so_far_skips i j floor ceiling keys worths next e s = record {
+  pub so_far_skips : (i j floor ceiling : ℕ) → i + 1 ≡ j → set i ≡ false → SoFar t n low high set j floor ceiling →
+      SoFar t n low high set i floor ceiling
+  so_far_skips i j floor ceiling next e s = record {
     order = s.order;
     most = s.most;
     worth = s.worth ∙ ap (λ (k : ℕ). clamp floor ceiling (best_below set worth_of n t k)) (sym next) ∙ ap (clamp floor ceiling) (best_skips set worth_of n t i e);
-    kept = s.kept;
   }
 
   -- a card of which the nearest to what it brings was found
-  pub so_far_takes : (i j floor ceiling worth floor' ceiling' : ℕ) (ours : Bool) (keys worths keys' worths' : List ℕ) → i + 1 ≡ j → set i ≡ true → ours ≡ our_turn t →
-      worth ≡ clamp floor ceiling (by_card worth_of t i) → floor' ≡ raised ours floor worth → ceiling' ≡ lowered ours ceiling worth → True root keys' worths' →
-      SoFar root t n low high set j floor ceiling keys worths → SoFar root t n low high set i floor' ceiling' keys' worths'
-  so_far_takes i j floor ceiling worth floor' ceiling' ours keys worths keys' worths' next e o w f c k s =
+  pub so_far_takes : (i j floor ceiling worth floor' ceiling' : ℕ) (ours : Bool) → i + 1 ≡ j → set i ≡ true → ours ≡ our_turn t →
+      worth ≡ clamp floor ceiling (by_card worth_of t i) → floor' ≡ raised ours floor worth → ceiling' ≡ lowered ours ceiling worth →
+      SoFar t n low high set j floor ceiling → SoFar t n low high set i floor' ceiling'
+  so_far_takes i j floor ceiling worth floor' ceiling' ours next e o w f c s =
       let f' : floor' ≡ raised (our_turn t) floor (clamp floor ceiling (by_card worth_of t i)) = f ∙ ap₂ (λ (x : Bool) (y : ℕ). raised x floor y) o w in
       let c' : ceiling' ≡ lowered (our_turn t) ceiling (clamp floor ceiling (by_card worth_of t i)) = c ∙ ap₂ (λ (x : Bool) (y : ℕ). lowered x ceiling y) o w in
       record {
@@ -102,22 +99,21 @@ module _ (root t : Table) (n low high : ℕ) (set : ℕ → Bool) where
             s.worth ∙ ap (λ (k : ℕ). clamp floor ceiling (best_below set worth_of n t k)) (sym next) ∙ ap (clamp floor ceiling) (best_takes set worth_of n t i e)
             ∙ narrows (our_turn t) floor ceiling (best_below set worth_of n t i) (by_card worth_of t i) s.order
             ∙ sym (ap₂ (λ (x y : ℕ). clamp x y (best_below set worth_of n t i)) f' c');
-        kept = k;
       }
 
   -- once floor and ceiling meet, what is left of the cards does not matter
-  pub so_far_closed : (i floor ceiling : ℕ) (ours : Bool) (keys worths : List ℕ) → floor ≡ ceiling → SoFar root t n low high set i floor ceiling keys worths →
+  pub so_far_closed : (i floor ceiling : ℕ) (ours : Bool) → floor ≡ ceiling → SoFar t n low high set i floor ceiling →
       pick ours floor ceiling ≡ clamp low high (worth_of t)
-  so_far_closed i floor ceiling ours keys worths e s = either ours ∙ clamp_one floor ceiling (best_below set worth_of n t i) e ∙ sym s.worth
+  so_far_closed i floor ceiling ours e s = either ours ∙ clamp_one floor ceiling (best_below set worth_of n t i) e ∙ sym s.worth
     where
       either : (x : Bool) → pick x floor ceiling ≡ floor
       either true = refl
       either false = sym e
 
   -- nor is anything left of them at the end
-  pub so_far_all : (i floor ceiling : ℕ) (ours : Bool) (keys worths : List ℕ) → i ≡ 0 → ours ≡ our_turn t → SoFar root t n low high set i floor ceiling keys worths →
+  pub so_far_all : (i floor ceiling : ℕ) (ours : Bool) → i ≡ 0 → ours ≡ our_turn t → SoFar t n low high set i floor ceiling →
       pick ours floor ceiling ≡ clamp low high (worth_of t)
-  so_far_all i floor ceiling ours keys worths e o s =
+  so_far_all i floor ceiling ours e o s =
       clamp_worst ours floor ceiling n s.order s.most
       ∙ ap (λ (x : Bool). clamp floor ceiling (worst x n)) o
       ∙ sym (ap (clamp floor ceiling) (best_none set worth_of n t))
@@ -125,13 +121,12 @@ module _ (root t : Table) (n low high : ℕ) (set : ℕ → Bool) where
       ∙ sym s.worth
 
 -- with no card looked at
-pub so_far_none : (root : Table) (b : Board) (n low high : ℕ) (set : ℕ → Bool) (i : ℕ) (keys worths : List ℕ) → n ≡ tricks_left b → Enough (seen b) (tricks_left b) set → i ≡ deck →
-    low < high → high ≤ n → True root keys worths → SoFar root (seen b) n low high set i low high keys worths
-so_far_none root b n low high set i keys worths left enough e some most k = record {
+pub so_far_none : (b : Board) (n low high : ℕ) (set : ℕ → Bool) (i : ℕ) → n ≡ tricks_left b → Enough (seen b) (tricks_left b) set → i ≡ deck →
+    low < high → high ≤ n → SoFar (seen b) n low high set i low high
+so_far_none b n low high set i left enough e some most = record {
   order = omega arith;
   most = most;
   worth = ap (clamp low high) (worth_step (seen b) n sound (omega (arith, cards_are (seen b) n sound, sound.short)) ∙ all ∙ ap (best_below set worth_of n (seen b)) (sym e));
-  kept = k;
 }
   where
     sound : Sound (seen b) n

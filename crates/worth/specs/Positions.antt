@@ -1,5 +1,6 @@
--- The positions that a search keeps, each with its worth: how one is a number, and when what is kept is true. Assumes nothing: these are definitions.
+-- The positions that a search keeps, each with its worth: how one is a number, and when what is kept is true. Assumes nothing: these are definitions, and one law that a struct's invariant is stated with.
 use Rattle.std.specs.Prelude.{◌≡◌, ℕ, ◌/◌, ◌%◌, ◌^◌, ◌<◌, Bool, true, ◌&&◌, ◌||◌, List, [], length, slice_index}
+use Rattle.std.specs.Coded.{Π_prop, →_prop, Coded-set, coded_ℕ}
 use Rattle.cards.specs.Table.{Table, deck}
 use Rattle.cards.specs.Bits.{bit}
 use Rattle.worth.specs.Value.{worth_of}
@@ -25,3 +26,8 @@ pub record Under (root t : Table) : Type 0 where
 -- each slot has the worth of its position. (An empty slot, 0 and 0, has that of the table with no cards.)
 unfoldable pub True : Table → List ℕ → List ℕ → Type 0
 True root keys worths = (i : ℕ) → i < length keys → slice_index worths i ≡ worth_of (position root (slice_index keys i))
+
+-- it has one proof only, as an invariant must
+pub true_prop : (root : Table) (keys worths : List ℕ) → IsProp (True root keys worths)
+unfolding True
+true_prop root keys worths = Π_prop (λ i. →_prop (Coded-set coded_ℕ (slice_index worths i) (worth_of (position root (slice_index keys i)))))

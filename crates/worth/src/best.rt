@@ -11,10 +11,7 @@ use tricks::turn::turn;
 pub(crate) fn is_ours(board: &Board) -> bool
     ensures { result ≡ our_turn (seen board.now) }
 {
-    match turn(board).side() {
-        Side::Ours => true,
-        Side::Others => false,
-    }
+    turn(board).side() == Side::Ours
 }
 
 // The floor once a card brings a worth: our side can choose the card.

@@ -3,8 +3,8 @@ ghost use Rattle.std.specs.Prelude.{◌≡◌};
 ghost use Rattle.cards.specs.Seen.{seen, tricks_left};
 ghost use Rattle.worth.specs.Answer.{usable, Judged};
 
-use crate::positions::clear;
-use crate::search::worth_at_root;
+use crate::positions::Positions;
+use crate::search::worth_under;
 use cards::board::Board;
 use cards::refusal::{Lent, Refusal};
 
@@ -22,6 +22,6 @@ pub fn worth(board: &Board, positions: &mut [u64], worths: &mut [u8]) -> Result<
     if !is_usable(positions, worths) {
         return Err(Refusal::Short(Lent::Positions));
     }
-    clear(board, positions, worths);
-    Ok(worth_at_root(board, positions, worths))
+    let mut kept = Positions::new(board, positions, worths);
+    Ok(worth_under(board, &mut kept))
 }

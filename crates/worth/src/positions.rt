@@ -1,10 +1,10 @@
-// The positions that a search keeps, those at the start of a trick, each with its worth: in two lent slices, one slot each.
-ghost use Rattle.std.specs.Prelude.{◌≡◌, ℕ, ◌+◌, ◌*◌, ◌/◌, ◌%◌, ◌^◌, ◌<◌, min, ◌||◌, length, replicate, IfSome, ◌==◌};
+// The positions that a search keeps, each with its worth: the key of a position, its slot, and reading and writing there.
+ghost use Rattle.std.specs.Prelude.{◌≡◌, ℕ, ◌+◌, ◌*◌, ◌/◌, ◌%◌, ◌^◌, ◌<◌, min, ◌||◌, length, replicate, slice_set, IfSome, ◌==◌};
 ghost use Rattle.cards.specs.Table.{deck};
 ghost use Rattle.cards.specs.Bits.{bit};
 ghost use Rattle.cards.specs.Seen.{seen};
 ghost use Rattle.worth.specs.Value.{worth_of};
-ghost use Rattle.worth.specs.Positions.{held, Key, Under, True};
+ghost use Rattle.worth.specs.Positions.{held, Key, Under, True, true_prop};
 
 use cards::board::Board;
 use cards::hand::Hand;
@@ -62,49 +62,78 @@ fn starts_trick(board: &Board) -> bool
     board.played == 0
 }
 
-// The worth of a position, if its slot has it.
-pub(crate) fn look_up(board: &Board, root: &Board, keys: &[u64], worths: &[u8]) -> Option<u8>
-    requires under { Under (seen root.now) (seen board.now) }
-    requires some { 0 < length keys.now }
-    requires same { length keys.now ≡ length worths.now }
-    requires kept { True (seen root.now) keys.now worths.now }
-    ensures { IfSome result (λ w. w ≡ worth_of (seen board.now)) }
-{
-    if !starts_trick(board) {
-        return None;
-    }
-    let key = key(board);
-    let slot = slot(key, keys.len());
-    if keys[slot] == key {
-        Some(worths[slot])
-    } else {
-        None
-    }
-}
-
-// Keeps the worth of a position in its slot, in place of what was there.
-pub(crate) fn store(board: &Board, worth: u8, root: &Board, keys: &mut [u64], worths: &mut [u8])
-    requires worth { worth ≡ worth_of (seen board.now) }
-    requires under { Under (seen root.now) (seen board.now) }
-    requires some { 0 < length keys.old }
+// Puts a key and a worth in a slot, in place of what was there.
+fn put(keys: &mut [u64], worths: &mut [u8], slot: usize, key: u64, worth: u8)
+    requires some { slot < length keys.old }
     requires same { length keys.old ≡ length worths.old }
-    requires kept { True (seen root.now) keys.old worths.old }
-    ensures { True (seen root.now) keys.new worths.new }
+    ensures keys { keys.new ≡ slice_set keys.old slot key }
+    ensures worths { worths.new ≡ slice_set worths.old slot worth }
 {
-    if starts_trick(board) {
-        let key = key(board);
-        let slot = slot(key, keys.len());
-        keys[slot] = key;
-        worths[slot] = worth;
-    }
+    keys[slot] = key;
+    worths[slot] = worth;
 }
 
-// Empties every slot, for a search from the root.
-pub fn clear(root: &Board, keys: &mut [u64], worths: &mut [u8])
-    ensures keys { keys.new ≡ replicate (length keys.old) 0 }
-    ensures worths { worths.new ≡ replicate (length worths.old) 0 }
-    ensures kept { True (seen root.now) keys.new worths.new }
-{
-    keys.fill(0);
-    worths.fill(0);
+// The positions that a search from a root keeps: those at the start of a trick, each with its worth, in two lent slices, one slot each.
+// Its invariant says that there are slots and that what they keep is true, so no literal and no write can make one that is not.
+#[derive(Drop)]
+pub struct Positions<'a> {
+    pub root: Board,
+    pub keys: &'a mut [u64],
+    pub worths: &'a mut [u8],
+    ghost some: { 0 < length keys.now },
+    ghost same: { length keys.now ≡ length worths.now },
+    ghost kept: { True (seen root) keys.now worths.now } by { true_prop (seen root) keys.now worths.now },
+}
+
+impl<'a> Positions<'a> {
+    ghost use Rattle.worth.specs.Lent.{SameSlots};
+
+    // Empties every slot, for a search from the root.
+    pub fn new(root: &Board, keys: &'a mut [u64], worths: &'a mut [u8]) -> Positions<'a>
+        requires some { 0 < length keys.old }
+        requires same { length keys.old ≡ length worths.old }
+        ensures root { result.root ≡ root.now }
+        ensures same_keys { result.keys.ghost_name ≡ keys.entry.ghost_name }
+        ensures same_worths { result.worths.ghost_name ≡ worths.entry.ghost_name }
+        ensures keys { result.keys.now ≡ replicate (length keys.old) 0 }
+        ensures worths { result.worths.now ≡ replicate (length worths.old) 0 }
+    {
+        keys.fill(0);
+        worths.fill(0);
+        Positions {
+            root: *root,
+            keys,
+            worths,
+        }
+    }
+
+    // The worth of a position, if its slot has it.
+    pub(crate) fn look_up(&self, board: &Board) -> Option<u8>
+        requires { Under (seen self.now.root) (seen board.now) }
+        ensures { IfSome result (λ w. w ≡ worth_of (seen board.now)) }
+    {
+        if !starts_trick(board) {
+            return None;
+        }
+        let key = key(board);
+        let slot = slot(key, self.keys.len());
+        if self.keys[slot] == key {
+            Some(self.worths[slot])
+        } else {
+            None
+        }
+    }
+
+    // Keeps the worth of a position in its slot, in place of what was there.
+    pub(crate) fn store(&mut self, board: &Board, worth: u8)
+        requires worth { worth ≡ worth_of (seen board.now) }
+        requires under { Under (seen self.old.root) (seen board.now) }
+        ensures { SameSlots self.old self.new }
+    {
+        if starts_trick(board) {
+            let key = key(board);
+            let slot = slot(key, self.keys.len());
+            put(self.keys, self.worths, slot, key, worth);
+        }
+    }
 }

@@ -1,16 +1,17 @@
 // The search: the worth of a table by trying the cards, to the last.
-ghost use Rattle.std.specs.Prelude.{◌≡◌, ℕ, ◌+◌, ◌*◌, ◌<◌, ◌≤◌, true, false, length, MatchOption};
+ghost use Rattle.std.specs.Prelude.{◌≡◌, ℕ, ◌+◌, ◌*◌, ◌<◌, ◌≤◌, true, false, MatchOption};
 ghost use Rattle.cards.specs.Bits.{bit};
 ghost use Rattle.cards.specs.Seen.{seen, tricks_left};
 ghost use Rattle.tricks.specs.Rules.{may};
 ghost use Rattle.tricks.specs.Taken.{taker_of};
 ghost use Rattle.tricks.specs.Moves.{After};
 ghost use Rattle.worth.specs.Value.{worth_of};
-ghost use Rattle.worth.specs.Positions.{Under, True};
+ghost use Rattle.worth.specs.Positions.{Under};
+ghost use Rattle.worth.specs.Lent.{SameSlots};
 ghost use Rattle.worth.specs.Search.{Enough, left_with, clamp};
 
 use crate::best::{is_ours, lowered, raised, reached};
-use crate::positions::{look_up, store};
+use crate::positions::Positions;
 use crate::window::{high_after, is_closed, is_exact, low_after, nearest};
 use cards::board::Board;
 use cards::card::Card;
@@ -62,29 +63,18 @@ fn left_with(taker: Option<Player>, left: u8) -> u8
 }
 
 // The worth of a board with so many tricks left, which came of the root, or the nearest to it within low and high.
-fn search(
-    board: Board,
-    left: u8,
-    low: u8,
-    high: u8,
-    root: &Board,
-    keys: &mut [u64],
-    worths: &mut [u8],
-) -> u8
+fn search(board: Board, left: u8, low: u8, high: u8, positions: &mut Positions<'_>) -> u8
     requires left { left ≡ tricks_left board }
     requires order { low ≤ high }
     requires most { high ≤ left }
-    requires under { Under (seen root.now) (seen board) }
-    requires some { 0 < length keys.old }
-    requires same { length keys.old ≡ length worths.old }
-    requires kept { True (seen root.now) keys.old worths.old }
+    requires under { Under (seen positions.old.root) (seen board) }
     ensures worth { result ≡ clamp low high (worth_of (seen board)) }
-    ensures kept { True (seen root.now) keys.new worths.new }
+    ensures same { SameSlots positions.old positions.new }
 {
     if is_closed(low, high) {
         return low;
     }
-    if let Some(worth) = look_up(&board, root, keys, worths) {
+    if let Some(worth) = positions.look_up(&board) {
         return nearest(low, high, worth);
     }
     let ours = is_ours(&board);
@@ -102,9 +92,7 @@ fn search(
                         rest,
                         low_after(floor, gain),
                         high_after(ceiling, gain, rest),
-                        root,
-                        keys,
-                        worths,
+                        positions,
                     );
                 floor = raised(ours, floor, worth);
                 ceiling = lowered(ours, ceiling, worth);
@@ -116,31 +104,17 @@ fn search(
     }
     let worth = reached(ours, floor, ceiling);
     if is_exact(low, high, left, worth) {
-        store(&board, worth, root, keys, worths);
+        positions.store(&board, worth);
     }
     worth
 }
 
-// The worth of a board that came of the root, with slots that were emptied for the root, or that an earlier search from it has left.
-pub fn worth_under(board: &Board, root: &Board, keys: &mut [u64], worths: &mut [u8]) -> u8
-    requires under { Under (seen root.now) (seen board.now) }
-    requires some { 0 < length keys.old }
-    requires same { length keys.old ≡ length worths.old }
-    requires kept { True (seen root.now) keys.old worths.old }
+// The worth of a board that came of the root of the positions that are kept.
+pub fn worth_under(board: &Board, positions: &mut Positions<'_>) -> u8
+    requires { Under (seen positions.old.root) (seen board.now) }
     ensures worth { result ≡ worth_of (seen board.now) }
-    ensures kept { True (seen root.now) keys.new worths.new }
+    ensures same { SameSlots positions.old positions.new }
 {
     let left = tricks_left(board);
-    search(*board, left, 0, left, root, keys, worths)
-}
-
-// The worth of the root itself.
-pub(crate) fn worth_at_root(root: &Board, keys: &mut [u64], worths: &mut [u8]) -> u8
-    requires some { 0 < length keys.old }
-    requires same { length keys.old ≡ length worths.old }
-    requires kept { True (seen root.now) keys.old worths.old }
-    ensures worth { result ≡ worth_of (seen root.now) }
-    ensures kept { True (seen root.now) keys.new worths.new }
-{
-    worth_under(root, root, keys, worths)
+    search(*board, left, 0, left, positions)
 }

@@ -1,9 +1,13 @@
 use Rattle.std.proofs.Common.{rules}
 use Rattle.cards.specs.Seen.{seen, tricks_left}
 use Rattle.cards.proofs.Order.{in_order}
+use Rattle.worth.proofs.PositionLaws.{under_new}
 use Rattle.equals.specs.Covered.{card_told}
 use Rattle.claims.proofs.AdviceLaws.{named}
 use Rattle.claims.proofs.advice.advise.Goals as goal
+
+pub advice_under-requires : goal.advice_under-requires
+advice_under-requires c = under_new _ _ c.new-kept.ensures.root
 
 pub returns : goal.returns
 returns c =
@@ -12,5 +16,5 @@ returns c =
       lent = search rules;
       card = c.advice_under.ensures.card;
       named = named (seen b) (tricks_left b) (in_order b).sound (card_told c.advice_under.result) c.advice_under.ensures.card;
-      kept = c.advice_under.ensures.kept;
+      kept = search rules;
     }

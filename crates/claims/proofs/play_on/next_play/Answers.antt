@@ -22,5 +22,5 @@ returns-in-Some c =
     record {
       next = subst (λ (o : Option ℕ). NextTold o t c.args.row.now c.args.used (Ok c.by_advice.result)) is
           (told t c.args.row.now c.args.used x (own_legal (is_ours c.args.side) t x (sym is)) c.by_advice.result c.by_advice.ensures);
-      kept = c.in-Some.ensures.kept;
+      same = c.in-Some.ensures.same;
     }

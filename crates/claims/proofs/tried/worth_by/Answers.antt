@@ -1,4 +1,4 @@
-use Rattle.std.proofs.Common.{Bool, Some, None, sym, refl, ap, ◌∙◌, arith}
+use Rattle.std.proofs.Common.{Bool, Some, None, sym, refl, ap, ◌∙◌, arith, rules}
 use Rattle.cards.specs.Table.{pick}
 use Rattle.cards.specs.Seen.{seen, tricks_left}
 use Rattle.cards.proofs.Order.{in_order}
@@ -7,25 +7,20 @@ use Rattle.claims.specs.Advice.{worth_by}
 use Rattle.claims.proofs.tried.worth_by.Goals as goal
 
 pub worth_under-rest-requires : goal.worth_under-rest-requires
-worth_under-rest-requires c = record {
-  under = after_under c.args.board.now c.args.card.number c.in-Some.played c.in-Some.ensures _ c.requires.under;
-  some = c.requires.some;
-  same = c.requires.same;
-  kept = c.requires.kept;
-}
+worth_under-rest-requires c = after_under c.args.board.now c.args.card.number c.in_ok-played.played c.in_ok-played.ensures _ c.requires
 
 pub overflow_add-result : goal.overflow_add-result
 overflow_add-result c =
     let b = c.args.board.now in
-    omega (arith, (in_order b).few, after_within b c.args.card.number c.in-Some.played c.in-Some.ensures (tricks_left b) _ _ refl c.gain.ensures c.worth_under-rest.ensures.worth)
+    omega (arith, (in_order b).few, after_within b c.args.card.number c.in_ok-played.played c.in_ok-played.ensures (tricks_left b) _ _ refl c.gain.ensures c.worth_under-rest.ensures.worth)
 
 pub returns : goal.returns
 returns c =
     let b = c.args.board.now in
     let x = c.args.card.number in
-    let done = c.in-Some.ensures in
+    let done = c.in_ok-played.ensures in
     record {
-      worth = ap Some (after_worth b x c.in-Some.played done _ _ c.gain.ensures c.worth_under-rest.ensures.worth)
+      worth = ap Some (after_worth b x c.in_ok-played.played done _ _ c.gain.ensures c.worth_under-rest.ensures.worth)
           ∙ sym (ap (λ (m : Bool). pick m (Some (worth_by (seen b) x)) None) done.legal);
-      kept = c.worth_under-rest.ensures.kept;
+      same = search rules;
     }

@@ -2,6 +2,7 @@ use Rattle.std.proofs.Common.{◌+◌, ◌*◌, ◌<◌}
 use Rattle.cards.specs.Bits.{bit}
 use Rattle.cards.specs.Table.{cards_left}
 use Rattle.cards.specs.Seen.{seen}
+use Rattle.worth.specs.Lent.{SameSlots}
 use Rattle.worth.proofs.SearchLaws.{SoFar}
 use Rattle.worth.proofs.search.+search.Given as goal
 
@@ -9,7 +10,15 @@ abbrev pub decreases-search : goal.decreases-search
 decreases-search l = cards_left (seen l.board)
 
 abbrev pub invariant-suits : goal.invariant-suits
-invariant-suits l = SoFar (seen l.root) (seen l.board) l.left l.low l.high (bit l.cards.bits) (13 * l.suit) l.floor l.ceiling l.keys l.worths × (l.floor < l.ceiling)
+invariant-suits l = record {
+  so_far : SoFar (seen l.board) l.left l.low l.high (bit l.cards.bits) (13 * l.suit) l.floor l.ceiling;
+  apart : l.floor < l.ceiling;
+  same : SameSlots l.fn.positions l.positions;
+}
 
 abbrev pub invariant-loop-rank : goal.invariant-loop-rank
-invariant-loop-rank l = SoFar (seen l.root) (seen l.board) l.left l.low l.high (bit l.cards.bits) (13 * l.suit + l.rank) l.floor l.ceiling l.keys l.worths × (l.floor < l.ceiling)
+invariant-loop-rank l = record {
+  so_far : SoFar (seen l.board) l.left l.low l.high (bit l.cards.bits) (13 * l.suit + l.rank) l.floor l.ceiling;
+  apart : l.floor < l.ceiling;
+  same : SameSlots l.fn.positions l.positions;
+}
