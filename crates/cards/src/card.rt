@@ -25,8 +25,8 @@ pub struct Card {
     ghost low: { number < deck },
 }
 
-// The suit that is trump, if one is.
-#[derive(Clone, Copy)]
+// The suit that is trump, if one is. No `Option<Suit>`: no trump is a word of the game, with a number and a text of its own.
+#[derive(Clone, Copy, PartialEq, Eq)]
 pub enum Trump {
     Of(Suit),
     NoTrump,

@@ -1,8 +1,9 @@
 // The cards in play.
-ghost use Rattle.std.specs.Prelude.{◌≡◌, ℕ, ◌||◌};
+ghost use Rattle.std.specs.Prelude.{◌≡◌, ℕ, ◌||◌, slice_index};
 ghost use Rattle.cards.specs.Bits.{bit};
-ghost use Rattle.cards.specs.Hands.{held};
+ghost use Rattle.cards.specs.Hands.{bits_of, held};
 ghost use Rattle.cards.specs.Seen.{seen};
+ghost use Rattle.tricks.specs.Rules.{turn as turn_of};
 ghost use Rattle.equals.specs.Equals.{on};
 ghost use Rattle.equals.specs.Covered.{of_others, seen_in_play};
 
@@ -46,10 +47,22 @@ fn held_or_lying(own: Hand, others: Hand, lying: Hand) -> Hand
     own.union(others).union(lying)
 }
 
-// The cards that are held or lie on the table, and so not those of finished tricks.
-pub(crate) fn in_play(board: &Board) -> Hand
-    ensures { (x : ℕ) → bit result.bits x ≡ seen_in_play (seen board.now) x }
-{
-    let others = cards_of_others(board.hands, turn(board));
-    held_or_lying(hand_to_play(board), others, on_table(board))
+// The cards in play, as the player to play sees them: those that are held or lie on the table, and so not those of finished tricks.
+#[derive(Clone, Copy)]
+pub(crate) struct InPlay {
+    // of these, what it holds itself
+    pub(crate) own: Hand,
+    pub(crate) all: Hand,
+}
+
+impl InPlay {
+    pub(crate) fn on(board: &Board) -> InPlay
+        ensures own { result.own.bits ≡ slice_index (bits_of board.now.hands) (turn_of (seen board.now)) }
+        ensures all { (x : ℕ) → bit result.all.bits x ≡ seen_in_play (seen board.now) x }
+    {
+        let own = hand_to_play(board);
+        let others = cards_of_others(board.hands, turn(board));
+        let all = held_or_lying(own, others, on_table(board));
+        InPlay { own, all }
+    }
 }

@@ -4,15 +4,14 @@ ghost use Rattle.cards.specs.Table.{deck};
 ghost use Rattle.cards.specs.Bits.{bit};
 ghost use Rattle.cards.specs.Seen.{seen};
 ghost use Rattle.equals.specs.Lowest.{lowest};
-ghost use Rattle.equals.specs.Covered.{top, lower as lower_of, card_told, covered as covered_by};
+ghost use Rattle.equals.specs.Covered.{top, lower as lower_of, card_told, covered};
 ghost use Rattle.equals.specs.Serves.{Serves};
 
-use crate::in_play::in_play;
+use crate::in_play::InPlay;
 use cards::board::Board;
 use cards::card::Card;
 use cards::hand::Hand;
 use tricks::legal::{cards_of, playable};
-use tricks::turn::hand_to_play;
 
 // The highest card of a set, if it has any.
 fn highest(cards: Hand) -> Option<Card>
@@ -49,41 +48,43 @@ fn next_lower(cards: Hand, card: Card) -> Option<Card>
     highest(lower(cards, card))
 }
 
-// Whether the next lower card in play is an own one, and so as good: those between are gone.
-fn is_covered(own: Hand, in_play: Hand, card: Card) -> bool
-    ensures { result ≡ covered_by (bit own.bits) (bit in_play.bits) card.number }
-{
-    next_lower(in_play, card).is_some_and(|next| own.holds(next))
-}
-
-// Whether a card is in a set, and not covered.
-fn is_uncovered(cards: Hand, own: Hand, in_play: Hand, card: Card) -> bool
-    ensures { result ≡ (bit cards.bits card.number && not (covered_by (bit own.bits) (bit in_play.bits) card.number)) }
-{
-    cards.holds(card) && !is_covered(own, in_play, card)
-}
-
-// A set with a card no more that is covered: of the two, the lower stays.
-fn without_covered(cards: Hand, own: Hand, in_play: Hand, card: Card) -> Hand
-    ensures { (x : ℕ) → bit result.bits x ≡ (bit cards.bits x && not (x == card.number && covered_by (bit own.bits) (bit in_play.bits) card.number)) }
-{
-    if is_covered(own, in_play, card) {
-        return cards.without(card);
+impl InPlay {
+    // Whether the next lower card in play is an own one, and so as good: those between are gone.
+    fn covers(self, card: Card) -> bool
+        ensures { result ≡ covered (bit self.own.bits) (bit self.all.bits) card.number }
+    {
+        next_lower(self.all, card).is_some_and(|next| self.own.holds(next))
     }
-    cards
-}
 
-// The cards of a set that are not covered, looked up one by one.
-fn uncovered(cards: Hand, own: Hand, in_play: Hand) -> Hand
-    ensures { (x : ℕ) → bit result.bits x ≡ (bit cards.bits x && not (covered_by (bit own.bits) (bit in_play.bits) x)) }
-{
-    let mut left = cards;
-    let mut found = cards;
-    while let Some(card) = highest(left) {
-        left = left.without(card);
-        found = without_covered(found, own, in_play, card);
+    // Whether a card is in a set, and not covered.
+    fn leaves(self, cards: Hand, card: Card) -> bool
+        ensures { result ≡ (bit cards.bits card.number && not (covered (bit self.own.bits) (bit self.all.bits) card.number)) }
+    {
+        cards.holds(card) && !self.covers(card)
     }
-    found
+
+    // A set with a card no more that is covered: of the two, the lower stays.
+    fn without_covered(self, cards: Hand, card: Card) -> Hand
+        ensures { (x : ℕ) → bit result.bits x ≡ (bit cards.bits x && not (x == card.number && covered (bit self.own.bits) (bit self.all.bits) card.number)) }
+    {
+        if self.covers(card) {
+            return cards.without(card);
+        }
+        cards
+    }
+
+    // The cards of a set that are not covered, looked up one by one.
+    fn uncovered(self, cards: Hand) -> Hand
+        ensures { (x : ℕ) → bit result.bits x ≡ (bit cards.bits x && not (covered (bit self.own.bits) (bit self.all.bits) x)) }
+    {
+        let mut left = cards;
+        let mut found = cards;
+        while let Some(card) = highest(left) {
+            left = left.without(card);
+            found = self.without_covered(found, card);
+        }
+        found
+    }
 }
 
 // The cards that a search has to try: of those that may be played and are as good as each other, the lowest.
@@ -91,12 +92,12 @@ pub fn lowest_equals(board: &Board) -> Hand
     ensures set { (x : ℕ) → bit result.bits x ≡ lowest (seen board.now) x }
     ensures serves { Serves (seen board.now) (bit result.bits) }
 {
-    uncovered(playable(board), hand_to_play(board), in_play(board))
+    InPlay::on(board).uncovered(playable(board))
 }
 
 // Whether a card may be played, and no lower one that may be is as good.
 pub fn is_lowest(board: &Board, card: Card) -> bool
     ensures { result ≡ lowest (seen board.now) card.number }
 {
-    is_uncovered(playable(board), hand_to_play(board), in_play(board), card)
+    InPlay::on(board).leaves(playable(board), card)
 }

@@ -15,17 +15,14 @@ use cards::player::Player;
 fn is_trump(trump: Trump, card: Card) -> bool
     ensures { result ≡ (suit_of card.number == trump_number trump) }
 {
-    match trump {
-        Trump::Of(suit) => card.is_of(suit),
-        Trump::NoTrump => false,
-    }
+    trump == Trump::Of(card.suit())
 }
 
 // Whether a card beats the best so far: it is of its suit and higher, or a trump on a card that is none.
 fn is_better(trump: Trump, best: Card, card: Card) -> bool
     ensures { (led : ℕ) → result ≡ beats (trump_number trump) led best.number card.number }
 {
-    card.is_of(best.suit()) && best.rank().number < card.rank().number
+    card.is_of(best.suit()) && best.rank() < card.rank()
         || !is_trump(trump, best) && is_trump(trump, card)
 }
 

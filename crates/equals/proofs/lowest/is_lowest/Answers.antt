@@ -10,8 +10,8 @@ pub returns : goal.returns
 returns c =
     let b = c.args.board.now in
     let x = c.args.card.number in
-    let own = bit c.hand_to_play.result.bits in
-    let play = bit c.in_play.result.bits in
-    c.is_uncovered.ensures
+    let own = bit c.on.result.own.bits in
+    let play = bit c.on.result.all.bits in
+    c.leaves.ensures
     ∙ ap (λ (m : Bool). m && not (covered own play x)) (c.playable.ensures x)
-    ∙ lowest_is (seen b) (tricks_left b) (in_order b).sound own play (ap bit c.hand_to_play.ensures) c.in_play.ensures x
+    ∙ lowest_is (seen b) (tricks_left b) (in_order b).sound own play (ap bit c.on.ensures.own) c.on.ensures.all x

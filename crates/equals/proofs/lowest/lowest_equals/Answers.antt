@@ -11,10 +11,10 @@ pub returns : goal.returns
 returns c =
     let b = c.args.board.now in
     let sound = (in_order b).sound in
-    let own = bit c.hand_to_play.result.bits in
-    let play = bit c.in_play.result.bits in
+    let own = bit c.on.result.own.bits in
+    let play = bit c.on.result.all.bits in
     let set : (x : ℕ) → bit c.uncovered.result.bits x ≡ lowest (seen b) x = λ x.
     c.uncovered.ensures x
     ∙ ap (λ (m : Bool). m && not (covered own play x)) (c.playable.ensures x)
-    ∙ lowest_is (seen b) (tricks_left b) sound own play (ap bit c.hand_to_play.ensures) c.in_play.ensures x in
+    ∙ lowest_is (seen b) (tricks_left b) sound own play (ap bit c.on.ensures.own) c.on.ensures.all x in
     record { set = set; serves = lowest_serve (seen b) (tricks_left b) sound (bit c.uncovered.result.bits) set }
