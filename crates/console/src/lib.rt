@@ -27,7 +27,7 @@ fn cards_in(word: &str) -> Option<u8>
 }
 
 // The most cards in a hand that are served: the argument, or 5 without one.
-fn most_cards(rt: &HostRuntime) -> anyhow::Result<u8>
+pub fn most_cards(rt: &HostRuntime) -> anyhow::Result<u8>
     ensures { IfOk result (λ n. (1 ≤ n) × (n ≤ 8)) }
 {
     let mut args = env::args(rt)?;
@@ -55,7 +55,7 @@ pub fn lend_slots<T: Clone>(heap: Global, cards: u8, empty: T) -> Vec<T>
 }
 
 // How a program is called, on standard error.
-fn show_usage(rt: &HostRuntime, program: &str) -> anyhow::Result<()> {
+pub fn show_usage(rt: &HostRuntime, program: &str) -> anyhow::Result<()> {
     eprintln!(rt;
         "usage: {program} [CARDS]   (the most cards in a hand that it serves, 1 to 8; 5 without it)"
     )?;
