@@ -13,7 +13,7 @@ fn show_next<T: Copy, W: fmt::Write>(
     f: &mut fmt::Formatter<W>,
 ) -> fmt::Result
 where
-    Shown<T>: fmt::Display + Drop,
+    Shown<T>: fmt::Display,
     ensures { DisplaysOnOk W.write_str_gives f.old result (Some separator.now ++? ⟦<Shown<T> as fmt::Display>⟧.output (record { 0 = item })) f.new }
 {
     write!(f, "{separator}{}", Shown(item))
@@ -26,7 +26,7 @@ pub(crate) fn show_each<T: Copy, W: fmt::Write>(
     f: &mut fmt::Formatter<W>,
 ) -> fmt::Result
 where
-    Shown<T>: fmt::Display + Drop,
+    Shown<T>: fmt::Display,
     ensures { (text : T → List ℕ) → ((x : T) → ⟦<Shown<T> as fmt::Display>⟧.output (record { 0 = x }) ≡ Some (text x)) → WritesOnOk W.write_str_gives f.old result (each_after separator.now text items.now) f.new }
 {
     for item in items {
