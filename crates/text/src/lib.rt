@@ -3,7 +3,7 @@
 
 pub mod card;
 pub mod deal;
-pub mod each;
+mod each;
 pub mod hand;
 pub mod judgement;
 pub mod plays;
