@@ -1,7 +1,7 @@
 -- What the fields of a board say of its table: the cards on it, and a hand of it. Assumes nothing.
 use Rattle.std.proofs.Common.{◌≡◌, ℕ, ◌+◌, ◌%◌, ◌<◌, Bool, eqb, ltb, List, [], ◌∷◌, ◌++◌, length, get_or, take, set, sym, ap, ◌∙◌, inl, inr, arith}
 use Rattle.std.proofs.lemmas.Bool.{cases_eq, eq-eqb, ne_eqb}
-use Rattle.std.proofs.lemmas.List.{length-map, length-take-le, map-set, get_or-set_same, get_or-set_other, take_more_set}
+use Rattle.std.proofs.lemmas.List.{length-map, length-take-le, map-set, get_or-set_same, get_or-set_other, take-map, take_more_set}
 use Rattle.cards.specs.Table.{pick, one, deck, count, Sound}
 use Rattle.cards.specs.Bits.{bit}
 use Rattle.cards.specs.Hands.{bits_of, held, numbers, table_of, tricks_of}
@@ -9,6 +9,10 @@ use Rattle.cards.specs.declared.card.Card.{Card}
 use Rattle.cards.specs.declared.card.Trump.{Trump}
 use Rattle.cards.specs.declared.hand.Hand.{Hand}
 use Rattle.cards.specs.declared.player.Player.{Player}
+
+-- the numbers of the first cards are the first of the numbers
+pub numbers_first : (n : ℕ) (cards : List Card) → numbers (take n cards) ≡ take n (numbers cards)
+numbers_first n cards = sym (take-map (λ c. c.number) n cards)
 
 -- as many cards lie on the table as were played to the trick
 pub cards_on : (trick : List Card) (n : ℕ) → length trick ≡ 3 → n < 4 → length (take n (numbers trick)) ≡ n

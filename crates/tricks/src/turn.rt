@@ -10,6 +10,7 @@ use cards::hand::Hand;
 use cards::player::Player;
 
 // The cards that lie on the table, from the leader's on.
+#[tactic(auto, using(crate::proofs::BoardLaws::numbers_first))]
 pub fn current_trick(board: &Board) -> &[Card]
     ensures { numbers result.now ≡ (seen board.now).trick }
 {
