@@ -1,14 +1,10 @@
-// Theorems about cards that are as good as each other: each function's contract is one, and its answer says nothing.
+// Theorems about cards that are as good as each other: each function's contract is one.
 ghost use Rattle.equals.specs.Equals.{AsGood, RowAsGood};
 
-pub fn as_good_stands() -> u8
+pub fn as_good_stands()
     ensures { AsGood }
-{
-    0
-}
+{}
 
-pub fn row_as_good_stands() -> u8
+pub fn row_as_good_stands()
     ensures { RowAsGood }
-{
-    0
-}
+{}

@@ -1,32 +1,22 @@
-// Theorems about the rules: each function's contract is one, and its answer says nothing.
+// Theorems about the rules: each function's contract is one.
 ghost use Rattle.tricks.specs.Statements.{SomebodyMay, KeepsSound, StaysSound, StaysSoundAnywhere, Worked};
 
-pub fn somebody_may_stands() -> u8
+pub fn somebody_may_stands()
     ensures { SomebodyMay }
-{
-    0
-}
+{}
 
-pub fn keeps_sound_stands() -> u8
+pub fn keeps_sound_stands()
     ensures { KeepsSound }
-{
-    0
-}
+{}
 
-pub fn stays_sound_stands() -> u8
+pub fn stays_sound_stands()
     ensures { StaysSound }
-{
-    0
-}
+{}
 
-pub fn stays_sound_anywhere_fails() -> u8
+pub fn stays_sound_anywhere_fails()
     ensures { StaysSoundAnywhere → ⊥ }
-{
-    0
-}
+{}
 
-pub fn worked_tables_stand() -> u8
+pub fn worked_tables_stand()
     ensures { Worked }
-{
-    0
-}
+{}

@@ -1,38 +1,26 @@
-// Theorems about the worth of a table: each function's contract is one, and its answer says nothing.
+// Theorems about the worth of a table: each function's contract is one.
 ghost use Rattle.worth.specs.Statements.{OneWorth, Fewer, AtMost, BothSides, OtherSide, ValueIsWorth};
 
-pub fn one_worth_stands() -> u8
+pub fn one_worth_stands()
     ensures { OneWorth }
-{
-    0
-}
+{}
 
-pub fn fewer_stands() -> u8
+pub fn fewer_stands()
     ensures { Fewer }
-{
-    0
-}
+{}
 
-pub fn at_most_stands() -> u8
+pub fn at_most_stands()
     ensures { AtMost }
-{
-    0
-}
+{}
 
-pub fn both_sides_stands() -> u8
+pub fn both_sides_stands()
     ensures { BothSides }
-{
-    0
-}
+{}
 
-pub fn other_side_stands() -> u8
+pub fn other_side_stands()
     ensures { OtherSide }
-{
-    0
-}
+{}
 
-pub fn value_is_worth_stands() -> u8
+pub fn value_is_worth_stands()
     ensures { ValueIsWorth }
-{
-    0
-}
+{}
