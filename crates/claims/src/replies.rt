@@ -43,10 +43,7 @@ pub(crate) fn is_claimers_turn(claim: Claim, board: &Board) -> bool
 fn taken(claim: Claim, taker: Option<Player>) -> u8
     ensures { result ≡ side_takes (claims_side claim) (taker_of taker) }
 {
-    match taker {
-        Some(player) if player.side() == claim.side() => 1,
-        _ => 0,
-    }
+    u8::from(taker.is_some_and(|player| player.side() == claim.side()))
 }
 
 // What is left of a claim.
