@@ -1,5 +1,5 @@
 -- From bytes to the answer: the parts put together. Assumes nothing.
-use Rattle.std.proofs.Common.{◌≡◌, ℕ, zero, suc, ◌+◌, ◌*◌, ◌<◌, ◌≤◌, Bool, true, false, ◌||◌, eqb, ltb, leb, List, [], ◌∷◌, length, drop, Ok, Err, Result, IfOk, sym, refl, ap, ◌∙◌, subst, inl, inr, arith, length-take}
+use Rattle.std.proofs.Common.{◌≡◌, ℕ, zero, suc, ◌+◌, ◌*◌, ◌<◌, ◌≤◌, Bool, true, false, ◌||◌, eqb, ltb, leb, List, [], ◌∷◌, length, drop, Ok, Err, Result, sym, refl, ap, ◌∙◌, subst, inl, inr, arith, length-take}
 use Rattle.std.proofs.lemmas.Bool.{both_ways, cases_eq, cases_lt, and_parts, and_from, lt-ltb, le-ltb, eq-eqb, ne_eqb}
 use Rattle.cards.specs.Table.{Table, pick, one, deck, count, cards_left, InOrder}
 use Rattle.cards.specs.Deal.{byte, start_of, number_byte, cards_of, has, table_in}
@@ -26,7 +26,7 @@ use Rattle.worth.specs.Value.{tricks_at}
 use Rattle.worth.specs.Answer.{usable}
 use Rattle.worth.proofs.ValueLaws as value
 use Rattle.claims.specs.Claimed.{claims_side, claims_tricks, claimable, Made, NoClaim}
-use Rattle.claims.specs.Judged.{JudgementTold, Refused, judgement_told, Counted, ClaimJudged}
+use Rattle.claims.specs.Judged.{JudgementTold, Refused, judgement_told, ClaimJudged}
 use Rattle.claims.specs.Judging.{Judging}
 use Rattle.claims.specs.PlayedOn.{LineRefused, no_places, no_slots, bad_card, PlayOnTold}
 use Rattle.claims.specs.SideBytes.{SideTold}
@@ -145,19 +145,17 @@ module _ (side tricks : ℕ) (b : Board) (c : Claim) (made : Made side tricks (t
 
   pub input_told : (bs : List ℕ) (room : Room) → side ≡ side_byte bs → tricks ≡ tricks_byte bs → room.positions ≡ length keys → room.worths ≡ length worths →
       RowStands (before_claim bs) room → seen b ≡ table_after (before_claim bs) → (r : Result Judgement Refusal) →
-      ClaimJudged (claims_side c) (tricks_left b) (claims_tricks c) (seen b) keys worths keys' worths' r → IfOk r Counted → InputTold bs room keys worths keys' worths' r
-  input_told bs room s k a e stands is (Err x) h _ = absurd (never_refused x (lent_slots (before_claim bs) room keys worths a e stands.deal) h)
-  input_told bs room s k a e stands is (Ok j) h counted =
+      ClaimJudged (claims_side c) (tricks_left b) (claims_tricks c) (seen b) keys worths keys' worths' r → InputTold bs room keys worths keys' worths' r
+  input_told bs room s k a e stands is (Err x) h = absurd (never_refused x (lent_slots (before_claim bs) room keys worths a e stands.deal) h)
+  input_told bs room s k a e stands is (Ok j) h =
       let u = table_after (before_claim bs) in
-      let (claimed, judged) = judged_at u is (judgement_told j) h in (
-        record {
-          stands = stands;
-          claimed = subst (λ (n : ℕ). claimable n (tricks_byte bs) (tricks_at u) ≡ true) s (subst (λ (n : ℕ). claimable side n (tricks_at u) ≡ true) k claimed);
-          judged = subst (λ (n : ℕ). JudgementTold (eqb n 0) (tricks_at u) (tricks_byte bs) u keys worths keys' worths' (judgement_told j)) s
-              (subst (λ (n : ℕ). JudgementTold (eqb side 0) (tricks_at u) n u keys worths keys' worths' (judgement_told j)) k judged);
-        },
-        counted,
-      )
+      let (claimed, judged) = judged_at u is (judgement_told j) h in
+      record {
+        stands = stands;
+        claimed = subst (λ (n : ℕ). claimable n (tricks_byte bs) (tricks_at u) ≡ true) s (subst (λ (n : ℕ). claimable side n (tricks_at u) ≡ true) k claimed);
+        judged = subst (λ (n : ℕ). JudgementTold (eqb n 0) (tricks_at u) (tricks_byte bs) u keys worths keys' worths' (judgement_told j)) s
+            (subst (λ (n : ℕ). JudgementTold (eqb side 0) (tricks_at u) n u keys worths keys' worths' (judgement_told j)) k judged);
+      }
 
 -- ---- the side that goes by advice
 module _ (bs : List ℕ) (room : Room) (d : Deal) (taken : reading.RightOf (PlayFault bs room) bs (told (Ok d))) where

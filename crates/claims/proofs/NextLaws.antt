@@ -1,7 +1,7 @@
 -- Playing on, card by card. Assumes nothing.
-use Rattle.std.proofs.Common.{◌≡◌, ℕ, suc, ◌+◌, ◌<◌, ◌≤◌, Bool, true, not, List, [], ◌∷◌, ◌++◌, length, take, drop, set, Some, None, Ok, Err, Option, sym, ap, ◌∙◌, subst, inl, inr, arith, length-set}
+use Rattle.std.proofs.Common.{◌≡◌, ℕ, suc, ◌+◌, ◌<◌, ◌≤◌, Bool, true, not, List, [], ◌∷◌, ◌++◌, length, drop, Some, None, Ok, Err, Option, sym, ap, ◌∙◌, subst, inl, inr, arith, length-append}
 use Rattle.std.proofs.lemmas.Bool.{cases_Bool, cases_lt}
-use Rattle.std.proofs.lemmas.List.{append-nil, append_assoc, at_drop_more, at_drop_all, take_more_set}
+use Rattle.std.proofs.lemmas.List.{append-nil, append_assoc, at_drop_more, at_drop_all}
 use Rattle.cards.specs.Table.{Table, pick, cards_left, Sound}
 use Rattle.cards.specs.Seen.{seen}
 use Rattle.cards.specs.Refusals.{number_of, place_of}
@@ -60,28 +60,26 @@ module _ (side : Bool) (u : Table) where
   ]
 
 -- ---- the cards so far
--- the first `count` of an array of cards were played from t on, i cards of the row among them; u is the table reached
-pub record OnTheWay (side : Bool) (t : Table) (cs cards : List ℕ) (count i : ℕ) (u : Table) : Type 0 where
-  pub room : length cards ≡ 32
-  pub left : count + cards_left u ≡ cards_left t
+-- these cards were played from t on, i cards of the row among them; u is the table reached
+pub record OnTheWay (side : Bool) (t : Table) (cs cards : List ℕ) (i : ℕ) (u : Table) : Type 0 where
+  pub left : length cards + cards_left u ≡ cards_left t
   pub used : i ≤ length cs
-  pub runs : (ds : List ℕ) → Runs side u (drop i cs) ds → Runs side t cs (take count cards ++ ds)
+  pub runs : (ds : List ℕ) → Runs side u (drop i cs) ds → Runs side t cs (cards ++ ds)
   pub halts : (n p : ℕ) → Halts side u (drop i cs) n p → Halts side t cs n (i + p)
   pub under : Under t u
 
-pub way_none : (side : Bool) (t : Table) (cs cards : List ℕ) → length cards ≡ 32 → OnTheWay side t cs cards 0 0 t
-way_none side t cs cards l = record {
-  room = l;
-  left = omega arith;
+pub way_none : (side : Bool) (t : Table) (cs cards : List ℕ) → cards ≡ [] → OnTheWay side t cs cards 0 t
+way_none side t cs cards e = record {
+  left = omega (arith, ap length e);
   used = omega arith;
-  runs = λ ds r. r;
+  runs = λ ds r. subst (λ (xs : List ℕ). Runs side t cs (xs ++ ds)) (sym e) r;
   halts = λ n p h. let e : p ≡ 0 + p = omega arith in subst (λ (q : ℕ). Halts side t cs n q) e h;
   under = under_root t;
 }
 
-module _ (side : Bool) (t : Table) (cs cards : List ℕ) (count i : ℕ) (u : Table) (w : OnTheWay side t cs cards count i u) where
+module _ (side : Bool) (t : Table) (cs cards : List ℕ) (i : ℕ) (u : Table) (w : OnTheWay side t cs cards i u) where
   -- a card that is played finds a place
-  pub way_place : (c : ℕ) → cards_left t ≤ 32 → may u c ≡ true → count < 32
+  pub way_place : (c : ℕ) → cards_left t ≤ 32 → may u c ≡ true → length cards < 32
   way_place c l m = omega (arith, w.left, one_fewer u c m)
 
   -- a card more leaves fewer cards
@@ -90,28 +88,24 @@ module _ (side : Bool) (t : Table) (cs cards : List ℕ) (count i : ℕ) (u : Ta
 
   -- a card more, x, finds a place, leaves fewer cards, and the play goes on
   pub record Goes_on (x : Next) : Type 0 where
-    pub place : count < 32
+    pub place : length cards < 32
     pub falls : cards_left (seen x.board) < cards_left u
-    pub way : OnTheWay side t cs (set cards count x.card.number) (count + 1) x.used (seen x.board)
+    pub way : (longer : List ℕ) → longer ≡ cards ++ x.card.number ∷ [] → OnTheWay side t cs longer x.used (seen x.board)
 
   -- one card more, x, after which j cards of the row are used: what holds of what comes after it holds of what comes with it
-  way_more : (c j : ℕ) (x : Next) → NextPlayed u c j x → count < 32 → j ≤ length cs →
+  way_more : (c j : ℕ) (x : Next) → NextPlayed u c j x → j ≤ length cs →
       ((ds : List ℕ) → Runs side (after u c) (drop j cs) ds → Runs side u (drop i cs) (c ∷ ds)) →
-      ((n p : ℕ) → Halts side (after u c) (drop j cs) n p → Halts side t cs n (j + p)) →
-      OnTheWay side t cs (set cards count x.card.number) (count + 1) x.used (seen x.board)
-  way_more c j x p l few runs halts =
+      ((n p : ℕ) → Halts side (after u c) (drop j cs) n p → Halts side t cs n (j + p)) → (longer : List ℕ) → longer ≡ cards ++ x.card.number ∷ [] → OnTheWay side t cs longer x.used (seen x.board)
+  way_more c j x p few runs halts longer more =
       let card = p.card in
       let spent = p.spent in
       record {
-        room = length-set cards count x.card.number ∙ w.room;
-        left = (let v : cards_left (seen x.board) ≡ cards_left (after u c) = ap cards_left p.table in omega (arith, w.left, one_fewer u c p.legal));
+        left = (let v : cards_left (seen x.board) ≡ cards_left (after u c) = ap cards_left p.table in omega (arith, w.left, one_fewer u c p.legal, ap length more ∙ length-append cards (x.card.number ∷ [])));
         used = omega arith;
         runs = λ ds r.
             let r' = subst (λ (q : ℕ). Runs side (after u c) (drop q cs) ds) spent (subst (λ (v : Table). Runs side v (drop x.used cs) ds) p.table r) in
-            let e : take (count + 1) (set cards count x.card.number) ++ ds ≡ take count cards ++ (c ∷ ds)
-            = ap (λ (xs : List ℕ). xs ++ ds) (take_more_set cards count x.card.number (omega (arith, w.room)))
-            ∙ append_assoc (take count cards) (x.card.number ∷ []) ds
-            ∙ ap (λ (y : ℕ). take count cards ++ (y ∷ ds)) card in
+            let e : longer ++ ds ≡ cards ++ (c ∷ ds)
+            = ap (λ (xs : List ℕ). xs ++ ds) more ∙ append_assoc cards (x.card.number ∷ []) ds ∙ ap (λ (y : ℕ). cards ++ (y ∷ ds)) card in
             subst (Runs side t cs) (sym e) (w.runs (c ∷ ds) (runs ds r'));
         halts = λ n q h.
             let h' = subst (λ (y : ℕ). Halts side (after u c) (drop y cs) n q) spent (subst (λ (v : Table). Halts side v (drop x.used cs) n q) p.table h) in
@@ -120,30 +114,28 @@ module _ (side : Bool) (t : Table) (cs cards : List ℕ) (count i : ℕ) (u : Ta
       }
 
   -- the card advised
-  pub way_advised : (c : ℕ) (x : Next) → own_card side u ≡ Some c → NextPlayed u c i x → count < 32 →
-      OnTheWay side t cs (set cards count x.card.number) (count + 1) x.used (seen x.board)
-  way_advised c x e p l =
+  pub way_advised : (c : ℕ) (x : Next) → own_card side u ≡ Some c → NextPlayed u c i x → (longer : List ℕ) → longer ≡ cards ++ x.card.number ∷ [] → OnTheWay side t cs longer x.used (seen x.board)
+  way_advised c x e p =
       let (o, a) = own_advised side u c e in
-      way_more c i x p l w.used (λ ds r. by_advice c o a r) (λ n q h. w.halts n q (past_advice c o a h))
+      way_more c i x p w.used (λ ds r. by_advice c o a r) (λ n q h. w.halts n q (past_advice c o a h))
 
   -- where none is, with m tricks left
   module _ (m : ℕ) (s : Sound u m) (e : own_card side u ≡ None) where
     -- the next card of the row
-    pub way_row : (x : Next) → i < length cs → NextPlayed u (card_at cs i) (i + 1) x → count < 32 →
-        OnTheWay side t cs (set cards count x.card.number) (count + 1) x.used (seen x.board)
-    way_row x there p l =
+    pub way_row : (x : Next) → i < length cs → NextPlayed u (card_at cs i) (i + 1) x → (longer : List ℕ) → longer ≡ cards ++ x.card.number ∷ [] → OnTheWay side t cs longer x.used (seen x.board)
+    way_row x there p =
         let c = card_at cs i in
         let o = row_plays side u m c s e p.legal in
-        way_more c (i + 1) x p l (omega arith)
+        way_more c (i + 1) x p (omega arith)
         (λ ds r. subst (λ (xs : List ℕ). Runs side u xs (c ∷ ds)) (sym (at_drop_more (λ (xs : List ℕ). xs) cs i 0 there)) (by_row c o p.legal r))
         (λ n q h.
         let f : i + suc q ≡ (i + 1) + q = omega arith in
         subst (Halts side t cs n) f (w.halts n (suc q) (subst (λ (xs : List ℕ). Halts side u xs n (suc q)) (sym (at_drop_more (λ (xs : List ℕ). xs) cs i 0 there)) (past_row c o p.legal h))))
 
     -- the row's end
-    pub way_ends : i ≡ length cs → Runs side t cs (take count cards)
+    pub way_ends : i ≡ length cs → Runs side t cs cards
     way_ends all =
-        subst (Runs side t cs) (append-nil (take count cards))
+        subst (Runs side t cs) (append-nil cards)
         (w.runs [] (subst (λ (xs : List ℕ). Runs side u xs []) (sym (at_drop_all (λ (xs : List ℕ). xs) cs i (omega arith))) (ends (row_turn side u m s e))))
 
     -- a card of the row that may not be played
@@ -161,13 +153,10 @@ module _ (side : Bool) (t : Table) (cs cards : List ℕ) (count i : ℕ) (u : Ta
   module _ (m : ℕ) (s : Sound u m) where
     pub way_goes : cards_left t ≤ 32 → (o : Option ℕ) → own_card side u ≡ o → (x : Next) → NextTold o u cs i (Ok (Some x)) → Goes_on x
     way_goes few None e x (there, p) =
-        let l = way_place (card_at cs i) few p.legal in
-        record { place = l; falls = falls (card_at cs i) (i + 1) x p; way = way_row m s e x there p l }
-    way_goes few (Some c) e x p =
-        let l = way_place c few p.legal in
-        record { place = l; falls = falls c i x p; way = way_advised c x e p l }
+        record { place = way_place (card_at cs i) few p.legal; falls = falls (card_at cs i) (i + 1) x p; way = way_row m s e x there p }
+    way_goes few (Some c) e x p = record { place = way_place c few p.legal; falls = falls c i x p; way = way_advised c x e p }
 
-    pub way_over : (o : Option ℕ) → own_card side u ≡ o → NextTold o u cs i (Ok None) → Runs side t cs (take count cards)
+    pub way_over : (o : Option ℕ) → own_card side u ≡ o → NextTold o u cs i (Ok None) → Runs side t cs cards
     way_over None e all = way_ends m s e all
     way_over (Some c) e all = absurd all
 

@@ -1,7 +1,7 @@
 -- The reply to a card of the side that claims, and the row of replies. Assumes nothing.
-use Rattle.std.proofs.Common.{◌≡◌, ℕ, zero, suc, ◌+◌, ◌-◌, ◌%◌, ◌<◌, ◌≤◌, Bool, true, false, not, ◌&&◌, eqb, List, [], ◌∷◌, ◌++◌, map, length, take, set, Some, None, Option, sym, refl, ap, ◌∙◌, ap₂, inl, inr, add-one, arith, length-set}
+use Rattle.std.proofs.Common.{◌≡◌, ℕ, zero, suc, ◌+◌, ◌-◌, ◌%◌, ◌<◌, ◌≤◌, Bool, true, false, not, ◌&&◌, eqb, List, [], ◌∷◌, ◌++◌, map, length, Some, None, Option, sym, refl, ap, ◌∙◌, ap₂, inl, inr, add-one, arith, length-append}
 use Rattle.std.proofs.lemmas.Bool.{cases_eq, cases_Bool}
-use Rattle.std.proofs.lemmas.List.{take_more_set, map_push}
+use Rattle.std.proofs.lemmas.List.{map_push}
 use Rattle.cards.specs.Table.{Table, pick, one, deck, most_tricks, count, InOrder}
 use Rattle.cards.specs.Seen.{seen, tricks_left}
 use Rattle.cards.specs.declared.board.Board.{Board}
@@ -15,7 +15,7 @@ use Rattle.tricks.proofs.CardsLeft.{own_cards}
 use Rattle.claims.specs.Advice.{keeps, advice}
 use Rattle.claims.specs.Failing.{failing, takes_by}
 use Rattle.claims.specs.Judging.{own_turn, side_takes, failing_after_lead, next_failing, Answered, answered, replies_below}
-use Rattle.claims.specs.Judged.{reply_told, row_told}
+use Rattle.claims.specs.Judged.{reply_told}
 use Rattle.claims.specs.declared.replies.Reply.{Reply}
 use Rattle.claims.proofs.LowestLaws.{lowest_is}
 use Rattle.claims.proofs.CardLaws.{kept}
@@ -97,42 +97,35 @@ replies_next side n k t i m e =
     ap (replies_below side n k t) (add-one i)
     ∙ ap (λ (b : Bool). pick b (replies_below side n k t i ++ (answered side n k t i ∷ [])) (replies_below side n k t i)) e
 
--- the first `size` of an array of eight are the replies to the cards below i
-pub record RowSoFar (t : Table) (side : Bool) (n k i : ℕ) (row : List Reply) (size : ℕ) : Type 0 where
-  pub eight : length row ≡ most_tricks
-  pub many : size ≡ count (may t) i
-  pub told : row_told row size ≡ replies_below side n k t i
+-- a row has the replies to the cards below i
+pub record RowSoFar (t : Table) (side : Bool) (n k i : ℕ) (row : List Reply) : Type 0 where
+  pub many : length row ≡ count (may t) i
+  pub told : map reply_told row ≡ replies_below side n k t i
 
 module _ (t : Table) (side : Bool) (n k : ℕ) where
-  pub row_none : (row : List Reply) → length row ≡ most_tricks → RowSoFar t side n k 0 row 0
+  pub row_none : (row : List Reply) → row ≡ [] → RowSoFar t side n k 0 row
   unfolding count replies_below
-  row_none row e = record { eight = e; many = refl; told = refl }
+  row_none row e = record { many = ap length e; told = ap (map reply_told) e }
 
   -- card x, the next
-  module _ (i x : ℕ) (next : x ≡ i) (row : List Reply) (size : ℕ) (r : RowSoFar t side n k i row size) where
+  module _ (i x : ℕ) (next : x ≡ i) (row : List Reply) (r : RowSoFar t side n k i row) where
     -- it may not be played
-    pub row_skips : may t x ≡ false → RowSoFar t side n k (i + 1) row size
+    pub row_skips : may t x ≡ false → RowSoFar t side n k (i + 1) row
     row_skips m =
         let illegal : may t i ≡ false = ap (may t) (sym next) ∙ m in
-        record { eight = r.eight; many = omega (arith, r.many, count_next (may t) i, ap one illegal); told = r.told ∙ sym (replies_next side n k t i false illegal) }
+        record { many = omega (arith, r.many, count_next (may t) i, ap one illegal); told = r.told ∙ sym (replies_next side n k t i false illegal) }
 
     -- it may, and finds a place
-    pub row_place : InOrder t n → x < deck → may t x ≡ true → size < most_tricks
+    pub row_place : InOrder t n → x < deck → may t x ≡ true → length row < most_tricks
     row_place o l m = omega (arith, r.many, may_few t n o, count_next (may t) i, ap one (ap (may t) (sym next) ∙ m), count_up (may t) (i + 1) deck (omega arith))
 
-    pub row_more : (y : Reply) → size < most_tricks → may t x ≡ true → reply_told y ≡ answered side n k t x →
-        RowSoFar t side n k (i + 1) (set row size y) (size + 1)
-    row_more y l m e =
+    pub row_more : (y : Reply) (longer : List Reply) → longer ≡ row ++ y ∷ [] → may t x ≡ true → reply_told y ≡ answered side n k t x → RowSoFar t side n k (i + 1) longer
+    row_more y longer more m e =
         let legal : may t i ≡ true = ap (may t) (sym next) ∙ m in
         record {
-          eight = length-set row size y ∙ r.eight;
-          many = omega (arith, r.many, count_next (may t) i, ap one legal);
-          told = ap (map reply_told) (take_more_set row size y (omega (arith, r.eight)))
-              ∙ map_push reply_told (take size row) y
+          many = omega (arith, r.many, count_next (may t) i, ap one legal, ap length more ∙ length-append row (y ∷ []));
+          told = ap (map reply_told) more
+              ∙ map_push reply_told row y
               ∙ ap₂ (λ (rs : List Answered) (a : Answered). rs ++ (a ∷ [])) r.told (e ∙ ap (answered side n k t) next)
               ∙ sym (replies_next side n k t i true legal);
         }
-
--- there are no more replies than cards that may be played
-pub row_few : (t : Table) (side : Bool) (n k i : ℕ) (row : List Reply) (size : ℕ) → RowSoFar t side n k i row size → InOrder t n → i ≤ deck → size ≤ most_tricks
-row_few t side n k i row size r o l = omega (arith, r.many, may_few t n o, count_up (may t) i deck l)

@@ -14,7 +14,7 @@ use Rattle.worth.specs.Value.{tricks_at}
 use Rattle.worth.specs.Positions.{True}
 use Rattle.claims.specs.Claimed.{claimable}
 use Rattle.claims.specs.Judging.{Judging}
-use Rattle.claims.specs.Judged.{judgement_told, Counted, JudgementTold}
+use Rattle.claims.specs.Judged.{judgement_told, JudgementTold}
 use Rattle.claims.specs.PlayOn.{Halts}
 use Rattle.claims.specs.PlayedOn.{LineTold}
 use Rattle.claims.specs.declared.judge.Judgement.{Judgement}
@@ -71,7 +71,7 @@ pub record InputJudged (bs : List ℕ) (room : Room) (keys worths keys' worths' 
 
 -- the answer to an input with this room and these slices; a refusal leaves the slices as they were
 abbrev pub InputTold : List ℕ → Room → List ℕ → List ℕ → List ℕ → List ℕ → Result Judgement Refusal → Type 0
-InputTold bs room keys worths keys' worths' (Ok j) = InputJudged bs room keys worths keys' worths' (judgement_told j) × Counted j
+InputTold bs room keys worths keys' worths' (Ok j) = InputJudged bs room keys worths keys' worths' (judgement_told j)
 InputTold bs room keys worths keys' worths' (Err e) = InputRefused bs room (number_of e) (place_of e) × (keys' ≡ keys) × (worths' ≡ worths)
 
 -- the table of a deal and its row, or their refusal

@@ -1,6 +1,7 @@
 -- What is answered to who asks for the judgement of a claim and lends memory for it. Assumes nothing: these are definitions.
-use Rattle.std.specs.Prelude.{◌≡◌, ℕ, ◌≤◌, Bool, true, false, not, List, map, take, Ok, Err, Decides, Result, nat_le}
-use Rattle.cards.specs.Table.{Table, most_tricks}
+use Rattle.std.specs.Prelude.{◌≡◌, ℕ, Bool, true, false, not, List, map, Ok, Err, Decides, Result, nat_le}
+use Rattle.cards.specs.Table.{Table}
+use Rattle.cards.specs.Few.{listed}
 use Rattle.cards.specs.Refusals.{number_of, place_of}
 use Rattle.cards.specs.declared.refusal.Refusal.{Refusal}
 use Rattle.tricks.specs.Plays.{Worth}
@@ -18,21 +19,11 @@ use Rattle.claims.specs.declared.judge.Judgement.TheVariants.{Upheld, Fails, Rep
 abbrev pub reply_told : Reply → Answered
 reply_told r = record { card = r.card.number; reply = card_told r.reply }
 
--- the first replies of an array
-abbrev pub row_told : List Reply → ℕ → List Answered
-row_told rs n = map reply_told (take n rs)
-
 -- a judgement by its numbers
 abbrev pub judgement_told : Judgement → Judging
 judgement_told (Upheld w c) = upholds w (card_told c)
 judgement_told (Fails w c) = fails_by w (card_told c)
-judgement_told (Replies w rs n) = replies w (row_told rs n)
-
--- no more replies are counted than there are places
-abbrev pub Counted : Judgement → Type 0
-Counted (Upheld w c) = Unit {0}
-Counted (Fails w c) = Unit {0}
-Counted (Replies w rs n) = n ≤ most_tricks
+judgement_told (Replies w rs) = replies w (map reply_told (listed rs))
 
 -- does it uphold the claim
 abbrev pub is_upheld : Judging → Bool

@@ -2,14 +2,13 @@
 ghost use Rattle.std.specs.Prelude.{◌≡◌, ◌+◌, ◌-◌, ◌≤◌, length, drop};
 ghost use Rattle.cards.specs.Deal.{byte};
 ghost use Rattle.claims.specs.Bytes.{judging_room, InputTold, TableTold, playing_room, PlayTold};
-ghost use Rattle.claims.specs.SideBytes.{SideTold};
 
-use crate::claim::claim_from;
+use crate::claim::{claim_from, side_of};
 use crate::judge::{Judgement, judge};
 use crate::play_on::{Line, play_on};
 use cards::board::Board;
 use cards::card::Card;
-use cards::player::{Player, Side};
+use cards::player::Player;
 use cards::reader::{byte_at, read_deal};
 use cards::refusal::Refusal;
 use cards::room::Room;
@@ -82,17 +81,6 @@ pub fn judge_bytes(
     let board = table_after(&bytes[0..before], room)?;
     let claim = claim_from(end.side, end.tricks, tricks_left(&board))?;
     judge(&board, claim, positions, worths)
-}
-
-// The side that a byte says: 0 for ours and 1 for the others.
-fn side_of(number: u8) -> Result<Side, Refusal>
-    ensures { SideTold number result }
-{
-    match number {
-        0 => Ok(Side::Ours),
-        1 => Ok(Side::Others),
-        _ => Err(Refusal::Claim),
-    }
 }
 
 // Plays on from the table of an input: a deal of at most so many cards in a hand, a byte for the side that goes by advice, and the other side's cards.

@@ -2,7 +2,8 @@
 ghost use Rattle.std.specs.Prelude.{◌≡◌};
 ghost use Rattle.claims.specs.Sides.{is_ours};
 ghost use Rattle.claims.specs.Claims.{upheld};
-ghost use Rattle.claims.specs.Claimed.{claims_side, claims_tricks, claimable, Claimed};
+ghost use Rattle.claims.specs.Claimed.{claims_side, claims_tricks, Claimed};
+ghost use Rattle.claims.specs.SideBytes.{SideTold};
 
 use cards::player::Side;
 use cards::refusal::Refusal;
@@ -26,24 +27,24 @@ impl Claim {
     }
 }
 
-// Whether the side is one of the two, and claims no more tricks than are left.
-fn is_claim(side: u8, tricks: u8, left: u8) -> bool
-    ensures { result ≡ claimable side tricks left }
+// The side that a number says: 0 for ours and 1 for the others.
+pub(crate) fn side_of(number: u8) -> Result<Side, Refusal>
+    ensures { SideTold number result }
 {
-    side < 2 && tricks <= left
+    Side::try_from(number).map_err(|_| Refusal::Claim)
 }
 
 // The claim of a side, 0 for ours and 1 for the others.
 pub fn claim_from(side: u8, tricks: u8, left: u8) -> Result<Claim, Refusal>
     ensures { Claimed side tricks left result }
 {
-    if !is_claim(side, tricks, left) {
+    let side = side_of(side)?;
+    if tricks > left {
         return Err(Refusal::Claim);
     }
-    if side == 0 {
-        Ok(Claim::Ours(tricks))
-    } else {
-        Ok(Claim::Others(tricks))
+    match side {
+        Side::Ours => Ok(Claim::Ours(tricks)),
+        Side::Others => Ok(Claim::Others(tricks)),
     }
 }
 

@@ -1,11 +1,11 @@
 // The judgement of a claim, with memory that is lent for the positions.
-ghost use Rattle.std.specs.Prelude.{◌≡◌, IfOk, nat_le};
+ghost use Rattle.std.specs.Prelude.{◌≡◌, nat_le};
 ghost use Rattle.cards.specs.Seen.{seen, tricks_left};
 ghost use Rattle.worth.specs.Positions.{Under};
 ghost use Rattle.worth.specs.Lent.{SameSlots};
 ghost use Rattle.claims.specs.Claimed.{claims_side, claims_tricks};
 ghost use Rattle.claims.specs.Judging.{judging};
-ghost use Rattle.claims.specs.Judged.{judgement_told, Counted, ClaimJudged};
+ghost use Rattle.claims.specs.Judged.{judgement_told, ClaimJudged};
 
 use crate::advice::advice_under;
 use crate::claim::{Claim, upholds};
@@ -13,6 +13,7 @@ use crate::failing::failing_under;
 use crate::replies::{Reply, is_claimers_turn, replies_under};
 use cards::board::Board;
 use cards::card::Card;
+use cards::few::Few;
 use cards::refusal::{Lent, Refusal};
 use tricks::turn::tricks_left;
 use worth::call::is_usable;
@@ -23,21 +24,11 @@ use worth::search::worth_under;
 #[derive(Clone, Copy)]
 pub enum Judgement {
     // the claim is upheld: the advice for whoever is to play
-    Upheld {
-        worth: u8,
-        card: Option<Card>,
-    },
+    Upheld { worth: u8, card: Option<Card> },
     // it is not, and the other side is to play: its lowest card with which the claim fails
-    Fails {
-        worth: u8,
-        card: Option<Card>,
-    },
-    // it is not, and the side that claims is to play: the reply to each of its cards, of which those from `count` on mean nothing
-    Replies {
-        worth: u8,
-        replies: [Reply; 8],
-        count: u8,
-    },
+    Fails { worth: u8, card: Option<Card> },
+    // it is not, and the side that claims is to play: the reply to each of its cards
+    Replies { worth: u8, replies: Few<Reply, 8> },
 }
 
 // Whether no more tricks are claimed than are left.
@@ -53,7 +44,6 @@ fn is_within(claim: Claim, left: u8) -> bool
 fn judge_under(board: &Board, claim: Claim, positions: &mut Positions<'_>) -> Judgement
     requires { Under (seen positions.old.root) (seen board.now) }
     ensures judged { judgement_told result ≡ judging (claims_side claim) (tricks_left board.now) (claims_tricks claim) (seen board.now) }
-    ensures counted { Counted result }
     ensures same { SameSlots positions.old positions.new }
 {
     let left = tricks_left(board);
@@ -63,13 +53,8 @@ fn judge_under(board: &Board, claim: Claim, positions: &mut Positions<'_>) -> Ju
         return Judgement::Upheld { worth, card };
     }
     if is_claimers_turn(claim, board) {
-        let row = replies_under(board, claim, positions);
-        let replies = row.replies;
-        return Judgement::Replies {
-            worth,
-            replies,
-            count: row.count,
-        };
+        let replies = replies_under(board, claim, positions);
+        return Judgement::Replies { worth, replies };
     }
     let card = failing_under(board, claim, left, positions);
     Judgement::Fails { worth, card }
@@ -82,8 +67,7 @@ pub fn judge(
     positions: &mut [u64],
     worths: &mut [u8],
 ) -> Result<Judgement, Refusal>
-    ensures judged { ClaimJudged (claims_side claim) (tricks_left board.now) (claims_tricks claim) (seen board.now) positions.old worths.old positions.new worths.new result }
-    ensures counted { IfOk result Counted }
+    ensures { ClaimJudged (claims_side claim) (tricks_left board.now) (claims_tricks claim) (seen board.now) positions.old worths.old positions.new worths.new result }
 {
     if !is_within(claim, tricks_left(board)) {
         return Err(Refusal::Claim);

@@ -14,6 +14,7 @@ use crate::advice::advice_under;
 use crate::turns::is_turn_of;
 use cards::board::Board;
 use cards::card::Card;
+use cards::few::Few;
 use cards::player::Side;
 use cards::refusal::{Lent, Refusal};
 use referee::row::{Play, has_places, play_at, play_row};
@@ -34,13 +35,6 @@ struct Next {
     board: Board,
     card: Card,
     used: usize,
-}
-
-// The cards that are played, of which those from `count` on mean nothing. A table in order has at most 32 cards.
-#[derive(Clone, Copy)]
-struct Course {
-    cards: [u8; 32],
-    count: usize,
 }
 
 // The card advised to a side, where it is to play and has one.
@@ -102,28 +96,26 @@ fn next_play(
     }
 }
 
-// The cards that are played from a board on, by both sides.
+// The cards that are played from a board on, by both sides. A table in order has at most 32.
 fn course_from(
     board: &Board,
     side: Side,
     row: &[u8],
     positions: &mut Positions<'_>,
-) -> Result<Course, Refusal>
+) -> Result<Few<u8, 32>, Refusal>
     requires { Under (seen positions.old.root) (seen board.now) }
     ensures course { CourseTold (is_ours side) (seen board.now) row.now result }
     ensures same { SameSlots positions.old positions.new }
 {
-    let mut cards = [0u8; 32];
-    let mut count = 0usize;
+    let mut course = Few::empty(0);
     let mut used = 0usize;
     let mut table = *board;
     while let Some(next) = next_play(&table, side, row, used, positions)? {
-        cards[count] = next.card.number;
-        count += 1;
+        course.push(next.card.number).unwrap();
         used = next.used;
         table = next.board;
     }
-    Ok(Course { cards, count })
+    Ok(course)
 }
 
 // Plays on from a table: `side` by advice, the other side by the row of its cards. The plays are written to the lent slice at the end.
@@ -145,9 +137,9 @@ pub fn play_on(
     }
     let mut kept = Positions::new(board, positions, worths);
     let course = course_from(board, side, row, &mut kept)?;
-    let table = play_row(board, &course.cards[0..course.count], plays)?;
+    let table = play_row(board, course.as_slice(), plays)?;
     Ok(Line {
         board: table,
-        plays: course.count,
+        plays: course.len(),
     })
 }

@@ -1,6 +1,7 @@
 // What the other side replies to the cards of the side that claims: the lowest card with which the claim fails.
-ghost use Rattle.std.specs.Prelude.{◌≡◌, ◌-◌, ◌≤◌, true, false, MatchOption};
-ghost use Rattle.cards.specs.Table.{deck, most_tricks};
+ghost use Rattle.std.specs.Prelude.{◌≡◌, ◌-◌, true, false, map, MatchOption};
+ghost use Rattle.cards.specs.Table.{deck};
+ghost use Rattle.cards.specs.Few.{listed};
 ghost use Rattle.cards.specs.Seen.{seen, tricks_left};
 ghost use Rattle.tricks.specs.Rules.{may};
 ghost use Rattle.tricks.specs.Taken.{taker_of};
@@ -9,7 +10,7 @@ ghost use Rattle.worth.specs.Positions.{Under};
 ghost use Rattle.worth.specs.Lent.{SameSlots};
 ghost use Rattle.claims.specs.Claimed.{claims_side, claims_tricks};
 ghost use Rattle.claims.specs.Judging.{own_turn, side_takes, next_failing, answered, replies_below};
-ghost use Rattle.claims.specs.Judged.{reply_told, row_told};
+ghost use Rattle.claims.specs.Judged.{reply_told};
 
 use crate::advice::advice_under;
 use crate::claim::Claim;
@@ -18,6 +19,7 @@ use crate::tried::nth_card;
 use crate::turns::is_turn_of;
 use cards::board::Board;
 use cards::card::Card;
+use cards::few::Few;
 use cards::player::Player;
 use tricks::play::play;
 use tricks::turn::tricks_left;
@@ -28,13 +30,6 @@ use worth::positions::Positions;
 pub struct Reply {
     pub card: Card,
     pub reply: Option<Card>,
-}
-
-// Replies, of which those from `count` on mean nothing. A hand has at most eight cards.
-#[derive(Clone, Copy)]
-pub(crate) struct Row {
-    pub(crate) replies: [Reply; 8],
-    pub(crate) count: u8,
 }
 
 // Whether the side that claims is to play.
@@ -48,10 +43,7 @@ pub(crate) fn is_claimers_turn(claim: Claim, board: &Board) -> bool
 fn taken(claim: Claim, taker: Option<Player>) -> u8
     ensures { result ≡ side_takes (claims_side claim) (taker_of taker) }
 {
-    match taker {
-        Some(player) if player.side() == claim.side() => 1,
-        _ => 0,
-    }
+    u8::from(taker.is_some_and(|player| player.side() == claim.side()))
 }
 
 // What is left of a claim.
@@ -92,24 +84,25 @@ fn reply_to(board: &Board, card: Card, claim: Claim, positions: &mut Positions<'
     Some(Reply { card, reply })
 }
 
-// The replies to all cards that may be played, lowest first.
-pub(crate) fn replies_under(board: &Board, claim: Claim, positions: &mut Positions<'_>) -> Row
+// The replies to all cards that may be played, lowest first. A hand has at most eight cards.
+pub(crate) fn replies_under(
+    board: &Board,
+    claim: Claim,
+    positions: &mut Positions<'_>,
+) -> Few<Reply, 8>
     requires { Under (seen positions.old.root) (seen board.now) }
-    ensures row { row_told result.replies result.count ≡ replies_below (claims_side claim) (tricks_left board.now) (claims_tricks claim) (seen board.now) deck }
-    ensures few { result.count ≤ most_tricks }
+    ensures replies { map reply_told (listed result) ≡ replies_below (claims_side claim) (tricks_left board.now) (claims_tricks claim) (seen board.now) deck }
     ensures same { SameSlots positions.old positions.new }
 {
     let any = Reply {
         card: Card { number: 0 },
         reply: None,
     };
-    let mut replies = [any; 8];
-    let mut count = 0u8;
+    let mut replies = Few::empty(any);
     for number in 0..52u8 {
         if let Some(reply) = reply_to(board, nth_card(number), claim, positions) {
-            replies[count as usize] = reply;
-            count += 1;
+            replies.push(reply).unwrap();
         }
     }
-    Row { replies, count }
+    replies
 }

@@ -1,5 +1,5 @@
 // Judgements as text: the worth, whether the claim is upheld, and the card or the replies that show it, each on a line.
-ghost use Rattle.std.specs.Prelude.{◌≡◌, map, take, Some};
+ghost use Rattle.std.specs.Prelude.{◌≡◌, map, Some};
 ghost use Rattle.std.specs.Fmt.{WritesOnOk};
 ghost use Rattle.claims.specs.Judged.{reply_told, judgement_told};
 ghost use Rattle.text.specs.Judgements.{reply_text, answers_text, judgement_text};
@@ -32,17 +32,6 @@ fn show_answers<W: fmt::Write>(
     show_each("\n", replies, f)
 }
 
-// The first so many replies, at most all.
-fn first_replies(replies: &[Reply; 8], count: u8) -> &[Reply]
-    ensures { result.now ≡ take count replies.now }
-{
-    if count < 8 {
-        &replies[..count as usize]
-    } else {
-        replies
-    }
-}
-
 impl fmt::Display for Shown<Judgement> {
     ghost output = { λ x. Some (judgement_text (judgement_told x.0)) };
 
@@ -54,11 +43,7 @@ impl fmt::Display for Shown<Judgement> {
             Judgement::Fails { worth, card } => {
                 write!(f, "worth {worth}\nnot upheld\ncard {}", Shown(card))
             }
-            Judgement::Replies {
-                worth,
-                replies,
-                count,
-            } => show_answers(worth, first_replies(&replies, count), f),
+            Judgement::Replies { worth, replies } => show_answers(worth, replies.as_slice(), f),
         }
     }
 }

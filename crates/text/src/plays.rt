@@ -46,10 +46,7 @@ fn count_trick(before: usize, taker: Option<Player>) -> usize
     ensures value { result ≡ tricks_after before (taker_of taker) }
     ensures bound { result ≤ before + 1 }
 {
-    match taker {
-        Some(_) => before + 1,
-        None => before,
-    }
+    before + usize::from(taker.is_some())
 }
 
 // A play after so many tricks.

@@ -43,4 +43,4 @@ returns c =
     let (stands, is) = subst (λ (xs : List ℕ). TableTold xs room (Ok b)) (before_part bs c.ending_of-end.result.before c.ending_of-end.ensures.before) c.in_ok-board.ensures in
     let made = subst (λ (n : ℕ). Claimed c.ending_of-end.result.side c.ending_of-end.result.tricks n (Ok c.in_ok-claim.claim)) c.tricks_left.ensures c.in_ok-claim.ensures in
     input_told c.ending_of-end.result.side c.ending_of-end.result.tricks b c.in_ok-claim.claim made c.args.positions.now c.args.worths.now c.judge.new.positions c.judge.new.worths bs room
-    c.ending_of-end.ensures.side c.ending_of-end.ensures.tricks refl refl stands is c.judge.result c.judge.ensures.judged c.judge.ensures.counted
+    c.ending_of-end.ensures.side c.ending_of-end.ensures.tricks refl refl stands is c.judge.result c.judge.ensures

@@ -12,8 +12,8 @@ use Rattle.claims.proofs.judge.judge.Goals as goal
 pub judge_under-requires : goal.judge_under-requires
 judge_under-requires c = under_new _ _ c.new-kept.ensures.root
 
-pub returns-clause-judged : goal.returns-clause-judged
-returns-clause-judged c =
+pub returns : goal.returns
+returns c =
     let b = c.args.board.now in
     let side = claims_side c.args.claim in
     let k = claims_tricks c.args.claim in

@@ -11,8 +11,8 @@ worth_under-worth-requires c = c.requires
 pub advice_under-card-requires : goal.advice_under-card-requires
 advice_under-card-requires c = under_same _ _ c.worth_under-worth.ensures.same _ c.requires
 
-pub replies_under-row-requires : goal.replies_under-row-requires
-replies_under-row-requires c = under_same _ _ c.worth_under-worth.ensures.same _ c.requires
+pub replies_under-replies-requires : goal.replies_under-replies-requires
+replies_under-replies-requires c = under_same _ _ c.worth_under-worth.ensures.same _ c.requires
 
 pub failing_under-card-requires : goal.failing_under-card-requires
 failing_under-card-requires c = under_same _ _ c.worth_under-worth.ensures.same _ c.requires
@@ -23,7 +23,6 @@ returns-then-upholds c =
     record {
       judged = judged_upheld (claims_side c.args.claim) (tricks_left b) (claims_tricks c.args.claim) (seen b) _ _ c.tricks_left-left.ensures c.worth_under-worth.ensures.worth _
           (sym c.upholds.ensures ∙ c.if-upholds.true) c.advice_under-card.ensures.card;
-      counted = tt;
       same = search rules;
     }
 
@@ -32,8 +31,7 @@ returns-then-is_claimers_turn c =
     let b = c.args.board.now in
     record {
       judged = judged_replies (claims_side c.args.claim) (tricks_left b) (claims_tricks c.args.claim) (seen b) _ _ c.tricks_left-left.ensures c.worth_under-worth.ensures.worth _
-          (sym c.upholds.ensures ∙ c.if-upholds.false) (sym c.is_claimers_turn.ensures ∙ c.if-is_claimers_turn.true) c.replies_under-row.ensures.row;
-      counted = c.replies_under-row.ensures.few;
+          (sym c.upholds.ensures ∙ c.if-upholds.false) (sym c.is_claimers_turn.ensures ∙ c.if-is_claimers_turn.true) c.replies_under-replies.ensures.replies;
       same = search rules;
     }
 
@@ -43,6 +41,5 @@ returns c =
     record {
       judged = judged_fails (claims_side c.args.claim) (tricks_left b) (claims_tricks c.args.claim) (seen b) _ _ c.tricks_left-left.ensures c.worth_under-worth.ensures.worth _
           (sym c.upholds.ensures ∙ c.if-upholds.false) (sym c.is_claimers_turn.ensures ∙ c.if-is_claimers_turn.false) c.failing_under-card.ensures.card;
-      counted = tt;
       same = search rules;
     }
