@@ -13,9 +13,9 @@ use crate::failing::failing_under;
 use crate::replies::{Reply, is_claimers_turn, replies_under};
 use cards::board::Board;
 use cards::card::Card;
-use cards::refusal::{Lent, Refusal};
+use cards::refusal::Refusal;
 use tricks::turn::tricks_left;
-use worth::call::is_usable;
+use worth::call::prepare;
 use worth::positions::Positions;
 use worth::search::worth_under;
 
@@ -88,9 +88,11 @@ pub fn judge(
     if !is_within(claim, tricks_left(board)) {
         return Err(Refusal::Claim);
     }
-    if !is_usable(positions, worths) {
-        return Err(Refusal::Short(Lent::Positions));
-    }
-    let mut kept = Positions::new(board, positions, worths);
+    prepare(board, positions, worths)?;
+    let mut kept = Positions {
+        root: *board,
+        keys: positions,
+        worths,
+    };
     Ok(judge_under(board, claim, &mut kept))
 }
