@@ -61,10 +61,7 @@ fn left_with(taker: Option<Player>, left: u8) -> u8
     requires { 0 < left }
     ensures { result ≡ left_with (taker_of taker) left }
 {
-    match taker {
-        Some(_) => left - 1,
-        None => left,
-    }
+    if taker.is_some() { left - 1 } else { left }
 }
 
 // The worth of a board with so many tricks left, which came of the root, or the nearest to it within the window.

@@ -10,7 +10,7 @@ use Rattle.worth.specs.declared.window.Window.{Window}
 use Rattle.worth.proofs.WindowLaws.{still_open}
 use Rattle.worth.proofs.MoveLaws.{after_under}
 use Rattle.worth.proofs.PositionLaws.{under_same}
-use Rattle.worth.proofs.SearchLaws.{next_left, after_falls, after_left, exact_worth, so_far_none, so_far_skips, so_far_takes, so_far_all, so_far_closed}
+use Rattle.worth.proofs.SearchLaws.{after_falls, after_left, exact_worth, so_far_none, so_far_skips, so_far_takes, so_far_all, so_far_closed}
 use Rattle.worth.proofs.search.+search.Goals as goal
 use Rattle.worth.proofs.search.+search.Goals.{Left-suits, else-suits-test, then-suits-test+then-loop-rank-test+in-Some-played_of+then-is_closed-2}
 
@@ -18,9 +18,6 @@ pub suits-init : goal.suits-init
 suits-init t c =
     let some = still_open c.args.window c.is_closed.result c.is_closed.ensures c.if-is_closed.false in
     record { so_far = so_far_none c.args.board _ _ _ _ c.requires.left c.candidates-cards.ensures refl some c.requires.most; apart = some; same = search rules }
-
-pub after-next-requires : goal.after-next-requires
-after-next-requires t c = omega (arith, c.left_with-rest.ensures, next_left, c.loop-rank.invariant.so_far.most)
 
 pub search-requires : goal.search-requires
 search-requires t c =
@@ -81,12 +78,8 @@ store-requires t c =
       under = under_same _ _ same _ c.requires.under;
     }
 
-pub returns-then-is_exact : goal.returns-then-is_exact
-returns-then-is_exact t c =
-    let (worth, same) = settled t (goal.at.returns-then-is_exact t c).Left-suits in
-    record { worth = c.reached-worth.ensures ∙ worth; same = search rules }
+pub returns-then-is_exact-clause-worth : goal.returns-then-is_exact-clause-worth
+returns-then-is_exact-clause-worth t c = c.reached-worth.ensures ∙ (settled t (goal.at.returns-then-is_exact-clause-worth t c).Left-suits).0
 
-pub returns-else-is_exact : goal.returns-else-is_exact
-returns-else-is_exact t c =
-    let (worth, same) = settled t (goal.at.returns-else-is_exact t c).Left-suits in
-    record { worth = c.reached-worth.ensures ∙ worth; same = same }
+pub returns-else-is_exact-clause-worth : goal.returns-else-is_exact-clause-worth
+returns-else-is_exact-clause-worth t c = c.reached-worth.ensures ∙ (settled t (goal.at.returns-else-is_exact-clause-worth t c).Left-suits).0
