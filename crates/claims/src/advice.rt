@@ -10,8 +10,8 @@ ghost use Rattle.claims.specs.Answer.{Advised};
 use crate::tried::lowest_card;
 use cards::board::Board;
 use cards::card::Card;
-use cards::refusal::{Lent, Refusal};
-use worth::call::is_usable;
+use cards::refusal::Refusal;
+use worth::call::prepare;
 use worth::positions::Positions;
 use worth::search::worth_under;
 
@@ -33,9 +33,11 @@ pub fn advise(
 ) -> Result<Option<Card>, Refusal>
     ensures { Advised (seen board.now) (tricks_left board.now) positions.old worths.old positions.new worths.new result }
 {
-    if !is_usable(positions, worths) {
-        return Err(Refusal::Short(Lent::Positions));
-    }
-    let mut kept = Positions::new(board, positions, worths);
+    prepare(board, positions, worths)?;
+    let mut kept = Positions {
+        root: *board,
+        keys: positions,
+        worths,
+    };
     Ok(advice_under(board, &mut kept))
 }

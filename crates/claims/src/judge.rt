@@ -14,9 +14,9 @@ use crate::replies::{Reply, is_claimers_turn, replies_under};
 use cards::board::Board;
 use cards::card::Card;
 use cards::few::Few;
-use cards::refusal::{Lent, Refusal};
+use cards::refusal::Refusal;
 use tricks::turn::tricks_left;
-use worth::call::is_usable;
+use worth::call::prepare;
 use worth::positions::Positions;
 use worth::search::worth_under;
 
@@ -72,9 +72,11 @@ pub fn judge(
     if !is_within(claim, tricks_left(board)) {
         return Err(Refusal::Claim);
     }
-    if !is_usable(positions, worths) {
-        return Err(Refusal::Short(Lent::Positions));
-    }
-    let mut kept = Positions::new(board, positions, worths);
+    prepare(board, positions, worths)?;
+    let mut kept = Positions {
+        root: *board,
+        keys: positions,
+        worths,
+    };
     Ok(judge_under(board, claim, &mut kept))
 }

@@ -19,7 +19,7 @@ use cards::player::Side;
 use cards::refusal::{Lent, Refusal};
 use referee::row::{Play, has_places, play_at, play_row};
 use tricks::play::play;
-use worth::call::is_usable;
+use worth::call::prepare;
 use worth::positions::Positions;
 
 // The table where the play stopped, and how many plays there were.
@@ -132,10 +132,12 @@ pub fn play_on(
     if !has_places(board, plays.len()) {
         return Err(Refusal::Short(Lent::Plays));
     }
-    if !is_usable(positions, worths) {
-        return Err(Refusal::Short(Lent::Positions));
-    }
-    let mut kept = Positions::new(board, positions, worths);
+    prepare(board, positions, worths)?;
+    let mut kept = Positions {
+        root: *board,
+        keys: positions,
+        worths,
+    };
     let course = course_from(board, side, row, &mut kept)?;
     let table = play_row(board, course.as_slice(), plays)?;
     Ok(Line {

@@ -8,15 +8,16 @@ use Rattle.tricks.specs.Rules.{our_turn, may, winner, after}
 use Rattle.tricks.specs.Taken.{taker_of, gain_of}
 use Rattle.tricks.specs.Moves.{After}
 use Rattle.tricks.specs.declared.play.Played.{Played}
-use Rattle.worth.specs.Value.{worst, best_below, worth_of}
+use Rattle.worth.specs.Value.{best_below, worth_of}
 use Rattle.worth.specs.Search.{Enough, left_with, clamp, exact}
 use Rattle.tricks.proofs.CardsLeft.{cards_are, one_fewer}
 use Rattle.worth.proofs.BestLaws.{by_card, best_none, best_takes, best_skips}
 use Rattle.worth.proofs.ValueLaws.{worth_low, worth_step}
-use Rattle.worth.proofs.WindowLaws.{raised, lowered, lowered_least, clamp_one, clamp_all, clamp_exact, clamp_worst, after_order, narrows, narrows_order, found_is}
+use Rattle.worth.proofs.WindowLaws.{raised, lowered, lowered_least, clamp_one, clamp_all, clamp_within, clamp_exact, clamp_worst, narrows, found_is}
+use Rattle.worth.specs.declared.window.Window.{Window}
 
 -- a card takes at most one trick off those left, and brings at most one
-next_left : (taker : Option ℕ) (n : ℕ) → n ≤ left_with taker n + 1
+pub next_left : (taker : Option ℕ) (n : ℕ) → n ≤ left_with taker n + 1
 next_left None n = omega arith
 next_left (Some p) n = omega arith
 
@@ -31,8 +32,8 @@ worth_within b left e = omega (arith, worth_low (seen b) (tricks_left b) (in_ord
 pub whole_worth : (b : Board) (left : ℕ) → left ≡ tricks_left b → clamp 0 left (worth_of (seen b)) ≡ worth_of (seen b)
 whole_worth b left e = clamp_all left (worth_of (seen b)) (worth_within b left e)
 
-pub exact_worth : (b : Board) (low high left v : ℕ) → left ≡ tricks_left b → v ≡ clamp low high (worth_of (seen b)) → exact low high left v ≡ true → v ≡ worth_of (seen b)
-exact_worth b low high left v e = clamp_exact low high left v (worth_of (seen b)) (worth_within b left e)
+pub exact_worth : (b : Board) (w : Window) (left v : ℕ) → left ≡ tricks_left b → v ≡ clamp w.low w.high (worth_of (seen b)) → exact w.low w.high left v ≡ true → v ≡ worth_of (seen b)
+exact_worth b w left v e = clamp_exact w.low w.high left v (worth_of (seen b)) (worth_within b left e)
 
 -- ---- what comes of a card
 module _ (b : Board) (c : ℕ) (p : Played) (played : After b c p) where
@@ -49,84 +50,19 @@ module _ (b : Board) (c : ℕ) (p : Played) (played : After b c p) where
       by true = refl
       by false = refl
 
-  -- the window for what follows it, and that what is found of a card is the nearest to what it brings
-  module _ (left rest gain floor ceiling low high : ℕ) (e : rest ≡ left_with (taker_of p.taker) left) (g : gain ≡ gain_of (taker_of p.taker))
-      (some : floor < ceiling) (most : ceiling ≤ left) (l : low ≡ floor - gain) (h : high ≡ min (ceiling - gain) rest) where
-    near : left ≤ rest + 1
-    near = omega (arith, next_left (taker_of p.taker) left)
-
-    small : gain ≤ 1
-    small = omega (arith, gain_small (taker_of p.taker))
-
-    pub after_window : low ≤ high
-    after_window = omega (arith, after_order floor ceiling gain left rest some most near small)
-
-    pub after_found : (r : ℕ) → left ≡ tricks_left b → r ≡ clamp low high (worth_of (seen p.board)) → gain + r ≡ clamp floor ceiling (by_card worth_of (seen b) c)
-    after_found r f is =
-        ap (λ (x : ℕ). gain + x) (is ∙ ap₂ (λ (x y : ℕ). clamp x y (worth_of (seen p.board))) l h)
-        ∙ found_is floor ceiling gain left rest some most near small (worth_of (seen p.board)) (worth_within p.board rest (after_left left rest f e))
-        ∙ ap (clamp floor ceiling) (ap₂ (λ (x y : ℕ). x + y) (g ∙ played.gain) (ap worth_of played.table))
-
 -- ---- the window so far
 -- of the cards of a set those from i on were looked at, of table t with n tricks left:
--- its worth within low and high is the best of the cards below i within floor and ceiling
-pub record SoFar (t : Table) (n low high : ℕ) (set : ℕ → Bool) (i floor ceiling : ℕ) : Type 0 where
-  pub order : floor ≤ ceiling
-  pub most : ceiling ≤ n
-  pub worth : clamp low high (worth_of t) ≡ clamp floor ceiling (best_below set worth_of n t i)
-
-module _ (t : Table) (n low high : ℕ) (set : ℕ → Bool) where
-  -- a card that is not looked at
-  pub so_far_skips : (i j floor ceiling : ℕ) → i + 1 ≡ j → set i ≡ false → SoFar t n low high set j floor ceiling →
-      SoFar t n low high set i floor ceiling
-  so_far_skips i j floor ceiling next e s = record {
-    order = s.order;
-    most = s.most;
-    worth = s.worth ∙ ap (λ (k : ℕ). clamp floor ceiling (best_below set worth_of n t k)) (sym next) ∙ ap (clamp floor ceiling) (best_skips set worth_of n t i e);
-  }
-
-  -- a card of which the nearest to what it brings was found
-  pub so_far_takes : (i j floor ceiling worth floor' ceiling' : ℕ) (ours : Bool) → i + 1 ≡ j → set i ≡ true → ours ≡ our_turn t →
-      worth ≡ clamp floor ceiling (by_card worth_of t i) → floor' ≡ raised ours floor worth → ceiling' ≡ lowered ours ceiling worth →
-      SoFar t n low high set j floor ceiling → SoFar t n low high set i floor' ceiling'
-  so_far_takes i j floor ceiling worth floor' ceiling' ours next e o w f c s =
-      let f' : floor' ≡ raised (our_turn t) floor (clamp floor ceiling (by_card worth_of t i)) = f ∙ ap₂ (λ (x : Bool) (y : ℕ). raised x floor y) o w in
-      let c' : ceiling' ≡ lowered (our_turn t) ceiling (clamp floor ceiling (by_card worth_of t i)) = c ∙ ap₂ (λ (x : Bool) (y : ℕ). lowered x ceiling y) o w in
-      record {
-        order = rw (f', c') (narrows_order (our_turn t) floor ceiling (by_card worth_of t i) s.order);
-        most = omega (arith, c, lowered_least ours ceiling worth, s.most);
-        worth =
-            s.worth ∙ ap (λ (k : ℕ). clamp floor ceiling (best_below set worth_of n t k)) (sym next) ∙ ap (clamp floor ceiling) (best_takes set worth_of n t i e)
-            ∙ narrows (our_turn t) floor ceiling (best_below set worth_of n t i) (by_card worth_of t i) s.order
-            ∙ sym (ap₂ (λ (x y : ℕ). clamp x y (best_below set worth_of n t i)) f' c');
-      }
-
-  -- once floor and ceiling meet, what is left of the cards does not matter
-  pub so_far_closed : (i floor ceiling : ℕ) (ours : Bool) → floor ≡ ceiling → SoFar t n low high set i floor ceiling →
-      pick ours floor ceiling ≡ clamp low high (worth_of t)
-  so_far_closed i floor ceiling ours e s = either ours ∙ clamp_one floor ceiling (best_below set worth_of n t i) e ∙ sym s.worth
-    where
-      either : (x : Bool) → pick x floor ceiling ≡ floor
-      either true = refl
-      either false = sym e
-
-  -- nor is anything left of them at the end
-  pub so_far_all : (i floor ceiling : ℕ) (ours : Bool) → i ≡ 0 → ours ≡ our_turn t → SoFar t n low high set i floor ceiling →
-      pick ours floor ceiling ≡ clamp low high (worth_of t)
-  so_far_all i floor ceiling ours e o s =
-      clamp_worst ours floor ceiling n s.order s.most
-      ∙ ap (λ (x : Bool). clamp floor ceiling (worst x n)) o
-      ∙ sym (ap (clamp floor ceiling) (best_none set worth_of n t))
-      ∙ ap (λ (k : ℕ). clamp floor ceiling (best_below set worth_of n t k)) (sym e)
-      ∙ sym s.worth
+-- its worth within window w is the best of the cards below i within window v
+pub record SoFar (t : Table) (n : ℕ) (w : Window) (set : ℕ → Bool) (i : ℕ) (v : Window) : Type 0 where
+  pub most : v.high ≤ n
+  pub worth : clamp w.low w.high (worth_of t) ≡ clamp v.low v.high (best_below set worth_of n t i)
 
 -- with no card looked at
-pub so_far_none : (b : Board) (n low high : ℕ) (set : ℕ → Bool) (i : ℕ) → n ≡ tricks_left b → Enough (seen b) (tricks_left b) set → i ≡ deck →
-    low < high → high ≤ n → SoFar (seen b) n low high set i low high
-so_far_none b n low high set i left enough e some most = record {
-  order = omega arith;
+pub so_far_none : (b : Board) (n : ℕ) (w : Window) (set : ℕ → Bool) (i : ℕ) → n ≡ tricks_left b → Enough (seen b) (tricks_left b) set → i ≡ deck →
+    w.low < w.high → w.high ≤ n → SoFar (seen b) n w set i w
+so_far_none b n w set i left enough e some most = record {
   most = most;
-  worth = ap (clamp low high) (worth_step (seen b) n sound (omega (arith, cards_are (seen b) n sound, sound.short)) ∙ all ∙ ap (best_below set worth_of n (seen b)) (sym e));
+  worth = ap (clamp w.low w.high) (worth_step (seen b) n sound (omega (arith, cards_are (seen b) n sound, sound.short)) ∙ all ∙ ap (best_below set worth_of n (seen b)) (sym e));
 }
   where
     sound : Sound (seen b) n
@@ -134,3 +70,59 @@ so_far_none b n low high set i left enough e some most = record {
 
     all : best_below (may (seen b)) worth_of n (seen b) deck ≡ best_below set worth_of n (seen b) deck
     all = ap (λ (m : ℕ). best_below (may (seen b)) worth_of m (seen b) deck) left ∙ sym enough.best ∙ ap (λ (m : ℕ). best_below set worth_of m (seen b) deck) (sym left)
+
+module _ (b : Board) (left : ℕ) (w : Window) (set : ℕ → Bool) where
+  abbrev t : Table
+  t = seen b
+
+  -- the best of the cards below i
+  abbrev best : ℕ → ℕ
+  best i = best_below set worth_of left t i
+
+  -- a card that is not looked at
+  pub so_far_skips : (i j : ℕ) (v : Window) → i + 1 ≡ j → set i ≡ false → SoFar t left w set j v → SoFar t left w set i v
+  so_far_skips i j v next e s = record {
+    most = s.most;
+    worth = (let skips = best_skips set worth_of left t i e in cc);
+  }
+
+  -- a card of which the nearest to what it brings was found, in the window `next` for what follows it
+  pub so_far_takes : (i j : ℕ) (v next v' : Window) (p : Played) (ours : Bool) (gain rest found : ℕ) → i + 1 ≡ j → (set i ≡ true) × After b i p → ours ≡ our_turn t →
+      left ≡ tricks_left b → rest ≡ left_with (taker_of p.taker) left → gain ≡ gain_of (taker_of p.taker) → v.low < v.high →
+      next.low ≡ v.low - gain → next.high ≡ min (v.high - gain) rest → found ≡ clamp next.low next.high (worth_of (seen p.board)) →
+      v'.low ≡ raised ours v.low (clamp v.low v.high (gain + found)) → v'.high ≡ lowered ours v.high (clamp v.low v.high (gain + found)) →
+      SoFar t left w set j v → SoFar t left w set i v'
+  so_far_takes i j v next v' p ours gain rest found step (y, played) o e r g some l h is low high s = record {
+    most = omega (arith, lowered_least ours v.low v.high (gain + found) v.order, s.most);
+    worth =
+        (let takes = best_takes set worth_of left t i y in
+        let narrow = narrows (our_turn t) v.low v.high (best i) (by_card worth_of t i) in
+        let low' : v'.low ≡ raised (our_turn t) v.low (clamp v.low v.high (by_card worth_of t i)) = low ∙ ap₂ (λ (x : Bool) (k : ℕ). raised x v.low k) o near in
+        let high' : v'.high ≡ lowered (our_turn t) v.high (clamp v.low v.high (by_card worth_of t i)) = high ∙ ap₂ (λ (x : Bool) (k : ℕ). lowered x v.high k) o near in
+        cc);
+  }
+    where
+      brings : gain + found ≡ clamp v.low v.high (by_card worth_of t i)
+      brings =
+          ap (λ (x : ℕ). gain + x) (is ∙ ap₂ (λ (x k : ℕ). clamp x k (worth_of (seen p.board))) l h)
+          ∙ found_is v.low v.high gain left rest (worth_of (seen p.board)) some s.most (omega (arith, next_left (taker_of p.taker) left)) (omega (arith, gain_small (taker_of p.taker)))
+          (worth_within p.board rest (after_left b i p played left rest e r))
+          ∙ ap (clamp v.low v.high) (ap₂ (λ (x k : ℕ). x + k) (g ∙ played.gain) (ap worth_of played.table))
+
+      near : clamp v.low v.high (gain + found) ≡ clamp v.low v.high (by_card worth_of t i)
+      near = ap (clamp v.low v.high) brings ∙ clamp_within v.low v.high (by_card worth_of t i) v.order
+
+  -- once the window is closed, what is left of the cards does not matter
+  pub so_far_closed : (i : ℕ) (v : Window) (ours : Bool) → v.low ≡ v.high → SoFar t left w set i v → pick ours v.low v.high ≡ clamp w.low w.high (worth_of t)
+  so_far_closed i v ours e s = either ours ∙ clamp_one v.low v.high (best i) e ∙ sym s.worth
+    where
+      either : (x : Bool) → pick x v.low v.high ≡ v.low
+      either true = refl
+      either false = sym e
+
+  -- nor is anything left of them at the end
+  pub so_far_all : (i : ℕ) (v : Window) (ours : Bool) → i ≡ 0 → ours ≡ our_turn t → SoFar t left w set i v → pick ours v.low v.high ≡ clamp w.low w.high (worth_of t)
+  so_far_all i v ours e o s =
+      let worst-is = clamp_worst ours v.low v.high left v.order s.most in
+      let none = best_none set worth_of left t in
+      cc

@@ -4,21 +4,11 @@ use Rattle.std.proofs.lemmas.Bool.{cases_lt, ltb-true, eqb-true, eqb-false, and_
 use Rattle.cards.specs.Table.{pick}
 use Rattle.worth.specs.Value.{better, worst}
 use Rattle.worth.specs.Search.{clamp, exact}
-
--- low and high once a card brings a worth: who is to play can choose it
-abbrev pub raised : Bool → ℕ → ℕ → ℕ
-raised ours low worth = pick ours (max low worth) low
-
-abbrev pub lowered : Bool → ℕ → ℕ → ℕ
-lowered ours high worth = pick ours high (min high worth)
-
-pub lowered_least : (ours : Bool) (high worth : ℕ) → lowered ours high worth ≤ high
-lowered_least true high worth = omega arith
-lowered_least false high worth = omega arith
+use Rattle.worth.specs.declared.window.Window.{Window}
 
 -- what a window that is not closed has
-pub still_open : (low high : ℕ) (closed : Bool) → low ≤ high → closed ≡ eqb low high → closed ≡ false → low < high
-still_open low high closed l e f = omega (arith, eqb-false low high (sym e ∙ f))
+pub still_open : (w : Window) (closed : Bool) → closed ≡ eqb w.low w.high → closed ≡ false → w.low < w.high
+still_open w closed e f = omega (arith, eqb-false w.low w.high (sym e ∙ f), w.order)
 
 -- within one number there is but that, and within all of n tricks every worth
 pub clamp_one : (a b v : ℕ) → a ≡ b → a ≡ clamp a b v
@@ -26,6 +16,10 @@ clamp_one a b v e = elim (cases_lt b v) [ inl l ↦ omega arith | inr l ↦ omeg
 
 pub clamp_all : (n v : ℕ) → v ≤ n → clamp 0 n v ≡ v
 clamp_all n v l = omega arith
+
+-- the nearest to a worth is within
+pub clamp_within : (low high v : ℕ) → low ≤ high → clamp low high (clamp low high v) ≡ clamp low high v
+clamp_within low high v l = omega arith
 
 -- a worth that is exact is no bound
 pub clamp_exact : (low high n v w : ℕ) → w ≤ n → v ≡ clamp low high w → exact low high n v ≡ true → v ≡ w
@@ -41,19 +35,27 @@ pub clamp_worst : (ours : Bool) (low high n : ℕ) → low ≤ high → high ≤
 clamp_worst true low high n l k = omega arith
 clamp_worst false low high n l k = omega arith
 
+-- low and high once the nearest to what a card brings was found
+abbrev pub raised : Bool → ℕ → ℕ → ℕ
+raised ours low found = pick ours found low
+
+abbrev pub lowered : Bool → ℕ → ℕ → ℕ
+lowered ours high found = pick ours high found
+
+pub lowered_least : (ours : Bool) (low high v : ℕ) → low ≤ high → lowered ours high (clamp low high v) ≤ high
+lowered_least true low high v l = omega arith
+lowered_least false low high v l = omega arith
+
 -- a card that brings v raises low or lowers high to the nearest of v
-pub narrows : (ours : Bool) (low high b v : ℕ) → low ≤ high → clamp low high (better ours b v) ≡ clamp (raised ours low (clamp low high v)) (lowered ours high (clamp low high v)) b
-narrows true low high b v l = ap (max low) spread ∙ regroup (min high b) (min high v) ∙ ap (λ (x : ℕ). max x (min high b)) (again (min high v))
+pub narrows : (ours : Bool) (low high b v : ℕ) → clamp low high (better ours b v) ≡ clamp (raised ours low (clamp low high v)) (lowered ours high (clamp low high v)) b
+narrows true low high b v = ap (max low) spread ∙ regroup (min high b) (min high v)
   where
     spread : min high (max b v) ≡ max (min high b) (min high v)
     spread = omega arith
 
     regroup : (x y : ℕ) → max low (max x y) ≡ max (max low y) x
     regroup x y = omega arith
-
-    again : (y : ℕ) → max low y ≡ max low (max low y)
-    again y = omega arith
-narrows false low high b v l = ap (max low) regroup ∙ under (min high v) ∙ ap (λ (x : ℕ). max low (min x b)) inside
+narrows false low high b v = ap (max low) regroup ∙ under (min high v)
   where
     regroup : min high (min b v) ≡ min (min high v) b
     regroup = omega arith
@@ -61,25 +63,12 @@ narrows false low high b v l = ap (max low) regroup ∙ under (min high v) ∙ a
     under : (y : ℕ) → max low (min y b) ≡ max low (min (max low y) b)
     under y = omega arith
 
-    inside : clamp low high v ≡ min high (clamp low high v)
-    inside = omega arith
+-- a worth found within the window for what follows a gain, with m tricks left of n, is the nearest to what the card brings
+pub found_is : (low high gain n m w : ℕ) → low < high → high ≤ n → n ≤ m + 1 → gain ≤ 1 → w ≤ m → gain + clamp (low - gain) (min (high - gain) m) w ≡ clamp low high (gain + w)
+found_is low high gain n m w some most next small l = ap (λ (x : ℕ). gain + max (low - gain) x) short ∙ moved
+  where
+    short : min (min (high - gain) m) w ≡ min (high - gain) w
+    short = omega arith
 
-pub narrows_order : (ours : Bool) (low high v : ℕ) → low ≤ high → raised ours low (clamp low high v) ≤ lowered ours high (clamp low high v)
-narrows_order true low high v l = omega arith
-narrows_order false low high v l = omega arith
-
--- ---- what follows a gain, with m tricks left of n
-module _ (low high gain n m : ℕ) (some : low < high) (most : high ≤ n) (next : n ≤ m + 1) (small : gain ≤ 1) where
-  -- its window
-  pub after_order : low - gain ≤ min (high - gain) m
-  after_order = omega arith
-
-  -- a worth found within it is the nearest to what the card brings
-  pub found_is : (w : ℕ) → w ≤ m → gain + clamp (low - gain) (min (high - gain) m) w ≡ clamp low high (gain + w)
-  found_is w l = ap (λ (x : ℕ). gain + max (low - gain) x) short ∙ moved
-    where
-      short : min (min (high - gain) m) w ≡ min (high - gain) w
-      short = omega arith
-
-      moved : gain + max (low - gain) (min (high - gain) w) ≡ max low (min high (gain + w))
-      moved = omega arith
+    moved : gain + max (low - gain) (min (high - gain) w) ≡ max low (min high (gain + w))
+    moved = omega arith

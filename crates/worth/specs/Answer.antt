@@ -1,5 +1,5 @@
 -- What is answered to who asks for the worth of a table and lends memory for it. Assumes nothing: these are definitions.
-use Rattle.std.specs.Prelude.{◌≡◌, ℕ, ◌≤◌, Bool, true, false, ◌&&◌, List, length, Ok, Err, Result, ◌==◌, nat_lt}
+use Rattle.std.specs.Prelude.{◌≡◌, ℕ, ◌≤◌, Bool, true, false, ⊤, ◌&&◌, List, length, replicate, Ok, Err, Result, ◌==◌, nat_lt}
 use Rattle.cards.specs.Table.{Table}
 use Rattle.cards.specs.Refusals.{number_of, place_of}
 use Rattle.cards.specs.declared.refusal.Refusal.{Refusal}
@@ -29,6 +29,18 @@ pub record TurnedAway (keys worths keys' worths' : List ℕ) (e : Refusal) : Typ
   pub place : place_of e ≡ 2
   pub same_keys : keys' ≡ keys
   pub same_worths : worths' ≡ worths
+
+-- the slices are ready for a search from table t: they can be used, and each slot is empty, so that what they hold is true
+pub record Ready (t : Table) (keys worths keys' worths' : List ℕ) : Type 0 where
+  pub lent : usable keys worths ≡ true
+  pub no_keys : keys' ≡ replicate (length keys) 0
+  pub no_worths : worths' ≡ replicate (length worths) 0
+  pub kept : True t keys' worths'
+
+-- the slices are ready for it, and keys' and worths' afterwards, or there is a refusal
+abbrev pub Prepared : Table → List ℕ → List ℕ → List ℕ → List ℕ → Result ⊤ Refusal → Type 0
+Prepared t keys worths keys' worths' (Ok u) = Ready t keys worths keys' worths'
+Prepared t keys worths keys' worths' (Err e) = TurnedAway keys worths keys' worths' e
 
 -- the answer for table t with n tricks left and these slices, which are keys' and worths' afterwards
 abbrev pub Judged : Table → ℕ → List ℕ → List ℕ → List ℕ → List ℕ → Result ℕ Refusal → Type 0

@@ -1,7 +1,6 @@
 // The worth of a table: the tricks that our side takes if both sides play as well as can be.
 #![tactic(auto)]
 
-mod best;
 pub mod call;
 pub mod positions;
 pub mod search;

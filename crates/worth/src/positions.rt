@@ -73,6 +73,16 @@ fn put(keys: &mut [u64], worths: &mut [u8], slot: usize, key: u64, worth: u8)
     worths[slot] = worth;
 }
 
+// Empties every slot, for a search from a root.
+pub fn clear(root: &Board, keys: &mut [u64], worths: &mut [u8])
+    ensures keys { keys.new ≡ replicate (length keys.old) 0 }
+    ensures worths { worths.new ≡ replicate (length worths.old) 0 }
+    ensures kept { True (seen root.now) keys.new worths.new }
+{
+    keys.fill(0);
+    worths.fill(0);
+}
+
 // The positions that a search from a root keeps: those at the start of a trick, each with its worth, in two lent slices, one slot each.
 // Its invariant says that there are slots and that what they keep is true, so no literal and no write can make one that is not.
 #[derive(Drop)]
@@ -85,27 +95,8 @@ pub struct Positions<'a> {
     ghost kept: { True (seen root) keys.now worths.now } by { true_prop (seen root) keys.now worths.now },
 }
 
-impl<'a> Positions<'a> {
+impl Positions<'_> {
     ghost use Rattle.worth.specs.Lent.{SameSlots};
-
-    // Empties every slot, for a search from the root.
-    pub fn new(root: &Board, keys: &'a mut [u64], worths: &'a mut [u8]) -> Positions<'a>
-        requires some { 0 < length keys.old }
-        requires same { length keys.old ≡ length worths.old }
-        ensures root { result.root ≡ root.now }
-        ensures same_keys { result.keys.ghost_name ≡ keys.entry.ghost_name }
-        ensures same_worths { result.worths.ghost_name ≡ worths.entry.ghost_name }
-        ensures keys { result.keys.now ≡ replicate (length keys.old) 0 }
-        ensures worths { result.worths.now ≡ replicate (length worths.old) 0 }
-    {
-        keys.fill(0);
-        worths.fill(0);
-        Positions {
-            root: *root,
-            keys,
-            worths,
-        }
-    }
 
     // The worth of a position, if its slot has it.
     pub(crate) fn look_up(&self, board: &Board) -> Option<u8>

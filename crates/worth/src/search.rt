@@ -2,7 +2,7 @@
 ghost use Rattle.std.specs.Prelude.{◌≡◌, ℕ, ◌+◌, ◌*◌, ◌<◌, ◌≤◌, true, false, MatchOption};
 ghost use Rattle.cards.specs.Bits.{bit};
 ghost use Rattle.cards.specs.Seen.{seen, tricks_left};
-ghost use Rattle.tricks.specs.Rules.{may};
+ghost use Rattle.tricks.specs.Rules.{our_turn, may};
 ghost use Rattle.tricks.specs.Taken.{taker_of};
 ghost use Rattle.tricks.specs.Moves.{After};
 ghost use Rattle.worth.specs.Value.{worth_of};
@@ -10,16 +10,21 @@ ghost use Rattle.worth.specs.Positions.{Under};
 ghost use Rattle.worth.specs.Lent.{SameSlots};
 ghost use Rattle.worth.specs.Search.{Enough, left_with, clamp};
 
-use crate::best::{is_ours, lowered, raised, reached};
 use crate::positions::Positions;
-use crate::window::{high_after, is_closed, is_exact, low_after, nearest};
+use crate::window::Window;
 use cards::board::Board;
 use cards::card::Card;
 use cards::hand::Hand;
-use cards::player::Player;
+use cards::player::{Player, Side};
 use equals::lowest::lowest_equals;
 use tricks::play::{Played, played_lawfully};
-use tricks::turn::tricks_left;
+use tricks::turn::{tricks_left, turn};
+
+fn is_ours(board: &Board) -> bool
+    ensures { result ≡ our_turn (seen board.now) }
+{
+    turn(board).side() == Side::Ours
+}
 
 // The cards to look at: of cards that are as good as each other the lowest.
 fn candidates(board: &Board) -> Hand
@@ -56,54 +61,42 @@ fn left_with(taker: Option<Player>, left: u8) -> u8
     requires { 0 < left }
     ensures { result ≡ left_with (taker_of taker) left }
 {
-    match taker {
-        Some(_) => left - 1,
-        None => left,
-    }
+    if taker.is_some() { left - 1 } else { left }
 }
 
-// The worth of a board with so many tricks left, which came of the root, or the nearest to it within low and high.
-fn search(board: Board, left: u8, low: u8, high: u8, positions: &mut Positions<'_>) -> u8
+// The worth of a board with so many tricks left, which came of the root, or the nearest to it within the window.
+fn search(board: Board, left: u8, window: Window, positions: &mut Positions<'_>) -> u8
     requires left { left ≡ tricks_left board }
-    requires order { low ≤ high }
-    requires most { high ≤ left }
+    requires most { window.high ≤ left }
     requires under { Under (seen positions.old.root) (seen board) }
-    ensures worth { result ≡ clamp low high (worth_of (seen board)) }
+    ensures worth { result ≡ clamp window.low window.high (worth_of (seen board)) }
     ensures same { SameSlots positions.old positions.new }
 {
-    if is_closed(low, high) {
-        return low;
+    if window.is_closed() {
+        return window.low;
     }
     if let Some(worth) = positions.look_up(&board) {
-        return nearest(low, high, worth);
+        return window.nearest(worth);
     }
     let ours = is_ours(&board);
     let cards = candidates(&board);
-    let mut floor = low;
-    let mut ceiling = high;
+    let mut open = window;
     'suits: for suit in (0..4u8).rev() {
         for rank in (0..13u8).rev() {
             if let Some(played) = played_of(cards, &board, card_of(suit, rank)) {
                 let gain = played.gain();
                 let rest = left_with(played.taker, left);
-                let worth = gain
-                    + search(
-                        played.board,
-                        rest,
-                        low_after(floor, gain),
-                        high_after(ceiling, gain, rest),
-                        positions,
-                    );
-                floor = raised(ours, floor, worth);
-                ceiling = lowered(ours, ceiling, worth);
-                if is_closed(floor, ceiling) {
+                let next = open.after(gain, rest);
+                let worth = gain + search(played.board, rest, next, positions);
+                open = open.narrowed(ours, worth);
+                if open.is_closed() {
                     break 'suits;
                 }
             }
         }
     }
-    let worth = reached(ours, floor, ceiling);
-    if is_exact(low, high, left, worth) {
+    let worth = open.reached(ours);
+    if window.is_exact(left, worth) {
         positions.store(&board, worth);
     }
     worth
@@ -116,5 +109,6 @@ pub fn worth_under(board: &Board, positions: &mut Positions<'_>) -> u8
     ensures same { SameSlots positions.old positions.new }
 {
     let left = tricks_left(board);
-    search(*board, left, 0, left, positions)
+    let window = Window { low: 0, high: left };
+    search(*board, left, window, positions)
 }

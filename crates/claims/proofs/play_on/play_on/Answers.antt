@@ -4,7 +4,7 @@ use Rattle.std.proofs.lemmas.Bool.{not-true, not-false, ltb-true, ltb-false}
 use Rattle.cards.specs.Table.{Table, cards_left}
 use Rattle.cards.specs.Seen.{seen, tricks_left}
 use Rattle.cards.proofs.Order.{in_order}
-use Rattle.worth.proofs.PositionLaws.{under_new}
+use Rattle.worth.proofs.PositionLaws.{under_root}
 use Rattle.claims.specs.Sides.{is_ours}
 use Rattle.claims.specs.PlayOn.{Runs}
 use Rattle.claims.specs.Nexts.{CourseIs}
@@ -13,19 +13,25 @@ use Rattle.claims.proofs.LineToldLaws.{never_refused, line_told}
 use Rattle.claims.proofs.play_on.play_on.Goals as goal
 
 pub course_from-requires : goal.course_from-requires
-course_from-requires c = under_new _ _ c.new-kept.ensures.root
+course_from-requires c = under_root (seen c.args.board.now)
 
 pub returns-then-not-has_places : goal.returns-then-not-has_places
 returns-then-not-has_places c = (no_places (ltb-true _ _ (not-false _ (sym c.if-not-has_places.ensures))) refl refl, refl)
 
-pub returns-then-not-is_usable : goal.returns-then-not-is_usable
-returns-then-not-is_usable c = (no_slots (ltb-false _ _ (not-true _ (sym c.if-not-has_places.ensures))) (sym c.if-not-is_usable.ensures) refl refl, refl)
+pub returns-in_err-prepare : goal.returns-in_err-prepare
+returns-in_err-prepare c =
+    let (e, is, same) = err_from_is_err_and c.from_residual.result c.from_residual.ensures.1 in
+    let roomy = ltb-false _ _ (not-true _ (sym c.if-not-has_places.ensures)) in
+    let away = c.in_err-prepare.ensures in
+    subst
+    (PlayOnTold (is_ours c.args.side) (seen c.args.board.now) c.args.row.now c.args.plays.now c.args.plays.now c.args.positions.now c.args.worths.now _ _)
+    (sym (is ∙ ap Err same)) (rw (away.number, away.place) (no_slots roomy away.lent away.same_keys away.same_worths), refl)
 
 pub returns-in_err-course : goal.returns-in_err-course
 returns-in_err-course c =
-    let (e, is, same) = err_from_is_err_and c.from_residual.result c.from_residual.ensures.1 in
+    let (e, is, same) = err_from_is_err_and c.from_residual-in_err-course.result c.from_residual-in_err-course.ensures.1 in
     let roomy = ltb-false _ _ (not-true _ (sym c.if-not-has_places.ensures)) in
-    let bad = bad_card roomy (sym c.if-not-is_usable.ensures) c.in_err-course.ensures.course (search rules) in
+    let bad = bad_card roomy c.in_ok-prepare.ensures.lent c.in_err-course.ensures.course (search rules) in
     subst
     (PlayOnTold (is_ours c.args.side) (seen c.args.board.now) c.args.row.now c.args.plays.now c.args.plays.now c.args.positions.now c.args.worths.now _ _)
     (sym (is ∙ ap Err same)) (bad, refl)
@@ -50,4 +56,4 @@ returns c =
     let roomy : cards_left (seen b) ≤ length c.args.plays.now = ltb-false _ _ (not-true _ (sym c.if-not-has_places.ensures)) in
     let told = c.in_ok-table.ensures in
     line_told side (seen b) (tricks_left b) (in_order b).sound c.args.row.now _ (row_runs side (seen b) c.args.row.now _ _ c.as_slice.ensures is) c.args.plays.now c.play_row.new.plays roomy
-    c.in_ok-table.table told.right _ _ _ _ (sym c.if-not-is_usable.ensures) (search rules) told.value _ (ap length c.as_slice.ensures ∙ sym c.len.ensures.count) (omega (arith, is.few, c.len.ensures.count))
+    c.in_ok-table.table told.right _ _ _ _ c.in_ok-prepare.ensures.lent (search rules) told.value _ (ap length c.as_slice.ensures ∙ sym c.len.ensures.count) (omega (arith, is.few, c.len.ensures.count))

@@ -11,14 +11,14 @@ decreases-search l = cards_left (seen l.board)
 
 abbrev pub invariant-suits : goal.invariant-suits
 invariant-suits l = record {
-  so_far : SoFar (seen l.board) l.left l.low l.high (bit l.cards.bits) (13 * l.suit) l.floor l.ceiling;
-  apart : l.floor < l.ceiling;
+  so_far : SoFar (seen l.board) l.left l.window (bit l.cards.bits) (13 * l.suit) l.open;
+  apart : l.open.low < l.open.high;
   same : SameSlots l.fn.positions l.positions;
 }
 
 abbrev pub invariant-loop-rank : goal.invariant-loop-rank
 invariant-loop-rank l = record {
-  so_far : SoFar (seen l.board) l.left l.low l.high (bit l.cards.bits) (13 * l.suit + l.rank) l.floor l.ceiling;
-  apart : l.floor < l.ceiling;
+  so_far : SoFar (seen l.board) l.left l.window (bit l.cards.bits) (13 * l.suit + l.rank) l.open;
+  apart : l.open.low < l.open.high;
   same : SameSlots l.fn.positions l.positions;
 }

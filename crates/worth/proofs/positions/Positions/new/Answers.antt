@@ -1,6 +1,0 @@
-use Rattle.cards.specs.Seen.{seen}
-use Rattle.worth.proofs.PositionLaws.{true_empty}
-use Rattle.worth.proofs.positions.Positions.new.Goals as goal
-
-pub invariant_of-result-clause-kept : goal.invariant_of-result-clause-kept
-invariant_of-result-clause-kept c = true_empty (seen c.args.root.now) _ _ _ _ (c.fill.ensures.after (λ y e. e)) (c.fill-2.ensures.after (λ y e. e))
