@@ -1,16 +1,12 @@
 -- How many cards a set has, with one put in or taken out. Assumes nothing.
 use Rattle.std.proofs.Common.{◌≡◌, ℕ, zero, suc, ◌+◌, ◌<◌, Bool, true, false, not, ◌&&◌, ◌||◌, eqb, sym, refl, ap, ◌∙◌, ap₂, inl, inr, arith}
 use mathlib.Core.Bool.{and-true, and-false}
-use Rattle.std.proofs.lemmas.Bool.{eq-eqb, ne_eqb, cases_eq, cases_Bool}
+use Rattle.std.proofs.lemmas.Bool.{eq-eqb, eqb-true, ne_eqb, or_right, cases_eq, cases_Bool}
 use Rattle.cards.specs.Table.{one, count}
 
 pub or_false : (b : Bool) → (b || false) ≡ b
 or_false true = refl
 or_false false = refl
-
-or_true : (b : Bool) → (b || true) ≡ true
-or_true true = refl
-or_true false = refl
 
 pub count_same : (h k : ℕ → Bool) (n : ℕ) → ((x : ℕ) → x < n → h x ≡ k x) → count h n ≡ count k n
 unfolding count
@@ -21,25 +17,6 @@ pub count_none : (h : ℕ → Bool) (n : ℕ) → ((x : ℕ) → h x ≡ false) 
 unfolding count
 count_none h zero e = refl
 count_none h (suc n) e = ap₂ (λ (b : Bool) (m : ℕ). one b + m) (e n) (count_none h n e)
-
-put_same : (h : ℕ → Bool) (c x : ℕ) → (x ≡ c → ⊥) → (h x || eqb x c) ≡ h x
-put_same h c x ne = ap (λ (b : Bool). h x || b) (ne_eqb x c ne) ∙ or_false (h x)
-
--- one card more
-pub count_in : (h : ℕ → Bool) (c n : ℕ) → c < n → h c ≡ false → count (λ x. h x || eqb x c) n ≡ count h n + 1
-unfolding count
-count_in h c zero l e = absurd (omega arith)
-count_in h c (suc n) l e = elim (cases_eq n c) [
-  | inl q ↦
-      let here : (h n || eqb n c) ≡ true = ap (λ (b : Bool). h n || b) (eq-eqb n c q) ∙ or_true (h n) in
-      let top : h n ≡ false = ap h q ∙ e in
-      let low : count (λ x. h x || eqb x c) n ≡ count h n = count_same (λ x. h x || eqb x c) h n (λ x m. put_same h c x (λ r. omega arith)) in
-      rw (here, top) (omega arith)
-  | inr q ↦
-      let here : (h n || eqb n c) ≡ h n = put_same h c n q in
-      let low : count (λ x. h x || eqb x c) n ≡ count h n + 1 = count_in h c n (let m : c < n = elim (cases_eq c n) [ inl r ↦ absurd (q (sym r)) | inr r ↦ omega arith ] in m) e in
-      rw here (omega arith)
-]
 
 -- a hand without card c
 abbrev pub taken_out : (ℕ → Bool) → ℕ → ℕ → Bool
@@ -59,10 +36,20 @@ count_out h c (suc n) l e = elim (cases_eq n c) [
       let low : count (taken_out h c) n ≡ count h n = count_same (taken_out h c) h n (λ x m. out_same h c x (λ r. omega arith)) in
       rw (here, top) (omega arith)
   | inr q ↦
-      let below : c < n = elim (cases_eq c n) [ inl r ↦ absurd (q (sym r)) | inr r ↦ omega arith ] in
-      let low : count (taken_out h c) n + 1 ≡ count h n = count_out h c n below e in
-      rw (out_same h c n q) (omega arith)
+      rw (out_same h c n q) (omega (arith, count_out h c n (omega arith) e))
 ]
+
+-- one card more
+put_back : (b d : Bool) → (d ≡ true → b ≡ false) → ((b || d) && not d) ≡ b
+put_back true true f = sym (f refl)
+put_back true false f = refl
+put_back false true f = refl
+put_back false false f = refl
+
+pub count_in : (h : ℕ → Bool) (c n : ℕ) → c < n → h c ≡ false → count (λ x. h x || eqb x c) n ≡ count h n + 1
+count_in h c n l e =
+    let more : ℕ → Bool = λ x. h x || eqb x c in
+    omega (arith, count_out more c n l (or_right (h c) _ (eq-eqb c c refl)), count_same (taken_out more c) h n (λ x m. put_back (h x) (eqb x c) (λ t. ap h (eqb-true x c t) ∙ e)))
 
 -- a hand of some cards has one of them
 pub count_some : (h : ℕ → Bool) (n : ℕ) → 0 < count h n → (c : ℕ) × (c < n) × (h c ≡ true)

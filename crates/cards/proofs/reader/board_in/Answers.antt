@@ -1,5 +1,4 @@
 use Rattle.std.proofs.Common.{◌≡◌, None, sym, ap, ◌∙◌, arith}
-use Rattle.std.proofs.lemmas.Result.{err_from_is_err_and}
 use Rattle.cards.specs.Table.{Table}
 use Rattle.cards.specs.Deal.{start_of, first, hand_fault, card_fault}
 use Rattle.cards.specs.Reading.{accepts}
@@ -16,16 +15,14 @@ part-requires c = omega (arith, start_mono c.args.layout.now.bytes.now 0 4 (omeg
 pub returns-in_err-lying : goal.returns-in_err-lying
 returns-in_err-lying c follow room =
     let bs = c.args.layout.now.bytes.now in
-    let e = err_from_is_err_and c.from_residual.result c.from_residual.ensures.1 in
-    board_refused _ 4 _ _ _ _ _ e.1 e.2 c.in_err-lying.ensures.0
+    board_refused _ 4 _ _ _ _ c.from_residual.ensures.1 c.in_err-lying.ensures.0
     (or_else_first _ (first (hand_fault bs) 4) _ (trick_check bs _ c.empty.result.bits c.args.played _ c.part.ensures c.empty.ensures c.requires.played c.in_err-lying.ensures.1))
 
 pub returns-in_err-hands : goal.returns-in_err-hands
 returns-in_err-hands c follow room =
     let bs = c.args.layout.now.bytes.now in
-    let e = err_from_is_err_and c.from_residual-in_err-hands.result c.from_residual-in_err-hands.ensures.1 in
     let clean = trick_check bs _ c.empty.result.bits c.args.played None c.part.ensures c.empty.ensures c.requires.played c.in_ok-lying.ensures.0 in
-    board_refused _ 4 _ _ _ _ _ e.1 e.2 c.in_err-hands.ensures.0 (or_else_second _ (first (hand_fault bs) 4) _ clean c.in_err-hands.ensures.1)
+    board_refused _ 4 _ _ _ _ c.from_residual-in_err-hands.ensures.1 c.in_err-hands.ensures.0 (or_else_second _ (first (hand_fault bs) 4) _ clean c.in_err-hands.ensures.1)
 
 -- cards that were gathered have no fault
 cards_clean : (c : In_ok-hands) → card_fault c.args.layout.now.bytes.now ≡ None
@@ -36,8 +33,7 @@ cards_clean c =
 
 pub returns-in_err-check_shares : goal.returns-in_err-check_shares
 returns-in_err-check_shares c follow room =
-    let e = err_from_is_err_and c.from_residual-in_err-check_shares.result c.from_residual-in_err-check_shares.ensures.1 in
-    board_refused _ 5 _ _ _ _ _ e.1 e.2 c.in_err-check_shares.ensures.0 c.in_err-check_shares.ensures.1
+    board_refused _ 5 _ _ _ _ c.from_residual-in_err-check_shares.ensures.1 c.in_err-check_shares.ensures.0 c.in_err-check_shares.ensures.1
     ∙ sym (passes _ 4 _ (cards_clean (goal.at.returns-in_err-check_shares c).In_ok-hands))
 
 -- what was read, before the check of the suits
@@ -58,8 +54,7 @@ pub returns-in_err-check_suits : goal.returns-in_err-check_suits
 returns-in_err-check_suits c follow room =
     let clean = cards_clean (goal.at.returns-in_err-check_suits c).In_ok-hands in
     let read = read_so_far (goal.at.returns-in_err-check_suits c).After-trick_in-trick clean in
-    let e = err_from_is_err_and c.from_residual-in_err-check_suits.result c.from_residual-in_err-check_suits.ensures.1 in
-    board_refused _ 6 _ _ _ _ _ e.1 e.2 c.in_err-check_suits.ensures.0 (suits_same _ _ _ _ _ _ read ∙ c.in_err-check_suits.ensures.1)
+    board_refused _ 6 _ _ _ _ c.from_residual-in_err-check_suits.ensures.1 c.in_err-check_suits.ensures.0 (suits_same _ _ _ _ _ _ read ∙ c.in_err-check_suits.ensures.1)
     ∙ sym (passes _ 4 _ clean ∙ passes _ 5 _ c.in_ok-check_shares.ensures.0)
 
 pub invariant_of-result : goal.invariant_of-result

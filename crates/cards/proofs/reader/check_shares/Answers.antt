@@ -1,4 +1,4 @@
-use Rattle.std.proofs.Common.{◌≡◌, ℕ, Bool, true, false, List, Some, sym, refl, ap, ◌∙◌, ap₂, arith}
+use Rattle.std.proofs.Common.{rules, ◌≡◌, ℕ, Bool, true, false, List, Some, sym, refl, ap, ◌∙◌, ap₂, arith}
 use Rattle.cards.specs.Deal.{byte, start_of, first, fault, uneven, share}
 use Rattle.cards.proofs.DealLaws.{first_none, first_some}
 use Rattle.cards.proofs.reader.check_shares.Goals as goal
@@ -23,10 +23,4 @@ returns-then-is_uneven c =
     )
 
 pub loop-p-preserved : goal.loop-p-preserved
-loop-p-preserved c =
-    let g = c.args.layout.now in
-    first_none _ c.loop-p.p c.loop-p.invariant
-    (share_is g.bytes.now c.loop-p.p _ _ _ false c.share.ensures c.share-each.ensures g.leads c.if-is_uneven.ensures)
-
-pub returns : goal.returns
-returns c = let four : c.loop-p.p ≡ 4 = omega arith in (ap (first _) (sym four) ∙ c.loop-p.invariant, tt)
+loop-p-preserved c = search (rules, first_none, share_is)

@@ -1,4 +1,4 @@
-use Rattle.std.proofs.Common.{◌≡◌, ℕ, ◌+◌, ◌%◌, ◌<◌, Bool, not, ◌&&◌, eqb, List, length, get_or, take, sym, refl, ap, ◌∙◌, ap₂, arith}
+use Rattle.std.proofs.Common.{rules, ◌≡◌, ℕ, ◌+◌, ◌%◌, ◌<◌, Bool, not, ◌&&◌, eqb, List, length, get_or, take, sym, refl, ap, ◌∙◌, ap₂, arith}
 use Rattle.std.proofs.lemmas.List.{get_or-map, get_or-take}
 use Rattle.cards.specs.Table.{deck, suit, has_suit}
 use Rattle.cards.specs.Bits.{bit}
@@ -35,11 +35,4 @@ returns-then-is_against c =
     )
 
 pub loop-i-preserved : goal.loop-i-preserved
-loop-i-preserved c =
-    let card = card_is c.args.trick c.args.played c.loop-i.i c.card-item.result (omega arith) (omega arith) c.card-item.is in
-    first_none _ c.loop-i.i c.loop-i.invariant
-    (ap (λ (b : Bool). fault b (3 + c.loop-i.i))
-    (against_at c.args.trick c.args.hands c.args.leader.seat c.loop-i.i c.ahead-player.result.seat _ c.card-item.result _ card (omega arith) (omega arith) c.ahead-player.ensures ∙ sym c.if-is_against.ensures))
-
-pub returns : goal.returns
-returns c = let all : c.loop-i.i ≡ c.args.played = omega arith in (ap (first _) (sym all) ∙ c.loop-i.invariant, tt)
+loop-i-preserved c = search (rules, first_none, against_at, card_is)
