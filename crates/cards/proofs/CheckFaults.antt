@@ -16,10 +16,7 @@ use Rattle.cards.proofs.CardFaults.{finds_card}
 largest_above : (f : ℕ → ℕ) (n q : ℕ) → q < n → f q ≤ largest f n
 unfolding largest
 largest_above f zero q l = absurd (omega arith)
-largest_above f (suc n) q l = elim (cases_eq q n) [
-  | inl e ↦ rw e (omega arith)
-  | inr e ↦ omega (arith, largest_above f n q (omega arith))
-]
+largest_above f (suc n) q l = grind (arith, largest_above f n q)
 
 -- a largest that is not 0 is one of them
 largest_at : (f : ℕ → ℕ) (n : ℕ) → 0 < largest f n → (q : ℕ) × (q < n) × (f q ≡ largest f n)
@@ -32,10 +29,7 @@ largest_at f (suc n) l = elim (cases_lt (largest f n) (f n)) [
 
 -- past the end stands 0, so a number that is not 0 is there
 number_there : (bs : List ℕ) (q : ℕ) → 0 < number_byte bs q → start_of bs q < length bs
-number_there bs q l = elim (cases_lt (start_of bs q) (length bs)) [
-  | inl m ↦ m
-  | inr m ↦ absurd (omega (arith, get_or_past bs (start_of bs q) 0 m))
-]
+number_there bs q l = grind (arith, get_or_past bs (start_of bs q) 0)
 
 -- what more cards only make worse is wrong for some number exactly if it is for the largest
 decides_number : (bs : List ℕ) (P : ℕ → Type 0) (b : Bool) → ((n : ℕ) → P n → 0 < n) → ((m n : ℕ) → m ≤ n → P m → P n) →

@@ -2,6 +2,7 @@
 use Rattle.std.proofs.Common.{◌≡◌, ℕ, zero, suc, ◌+◌, ◌<◌, Bool, true, false, not, ◌&&◌, ◌||◌, eqb, sym, refl, ap, ◌∙◌, ap₂, inl, inr, arith}
 use mathlib.Core.Bool.{and-true, and-false}
 use Rattle.std.proofs.lemmas.Bool.{eq-eqb, eqb-true, ne_eqb, or_right, cases_eq, cases_Bool}
+use Rattle.std.proofs.lemmas.Bool.Decides.{nat_tests}
 use Rattle.cards.specs.Table.{one, count}
 
 pub or_false : (b : Bool) → (b || false) ≡ b
@@ -23,7 +24,7 @@ abbrev pub taken_out : (ℕ → Bool) → ℕ → ℕ → Bool
 taken_out h c x = h x && not (eqb x c)
 
 out_same : (h : ℕ → Bool) (c x : ℕ) → (x ≡ c → ⊥) → taken_out h c x ≡ h x
-out_same h c x ne = ap (λ (b : Bool). h x && not b) (ne_eqb x c ne) ∙ and-true (h x)
+out_same h c x ne = grind (arith, nat_tests)
 
 -- a card taken out is one card fewer
 pub count_out : (h : ℕ → Bool) (c n : ℕ) → c < n → h c ≡ true → count (taken_out h c) n + 1 ≡ count h n
@@ -41,10 +42,7 @@ count_out h c (suc n) l e = elim (cases_eq n c) [
 
 -- one card more
 put_back : (b d : Bool) → (d ≡ true → b ≡ false) → ((b || d) && not d) ≡ b
-put_back true true f = sym (f refl)
-put_back true false f = refl
-put_back false true f = refl
-put_back false false f = refl
+put_back b d f = grind (arith, cases_Bool b, cases_Bool d)
 
 pub count_in : (h : ℕ → Bool) (c n : ℕ) → c < n → h c ≡ false → count (λ x. h x || eqb x c) n ≡ count h n + 1
 count_in h c n l e =
@@ -55,10 +53,7 @@ count_in h c n l e =
 pub count_some : (h : ℕ → Bool) (n : ℕ) → 0 < count h n → (c : ℕ) × (c < n) × (h c ≡ true)
 unfolding count
 count_some h zero l = absurd (omega arith)
-count_some h (suc n) l = elim (cases_Bool (h n)) [
-  | inl e ↦ (n, omega arith, e)
-  | inr e ↦ let k : 0 < count h n = omega (arith, rw e at l) in let (c, m, f) = count_some h n k in (c, omega arith, f)
-]
+count_some h (suc n) l = grind (arith, nat_tests, count_some h n, cases_Bool (h n))
 
 -- a hand that has a card has some
 pub count_pos : (h : ℕ → Bool) (c n : ℕ) → c < n → h c ≡ true → 0 < count h n

@@ -10,9 +10,6 @@ pub start_next : (bs : List ℕ) (p : ℕ) → start_of bs (suc p) ≡ (start_of
 unfolding start_of
 start_next bs p = refl
 
-pub start_more : (bs : List ℕ) (p : ℕ) → start_of bs (p + 1) ≡ (start_of bs p + 1) + number_byte bs p
-start_more bs p = ap (start_of bs) (add-one p) ∙ start_next bs p
-
 -- the places of the hands, one after the other
 pub first_place : (bs : List ℕ) (n : ℕ) → n ≡ byte bs 2 → 3 + n ≡ start_of bs 0
 unfolding start_of
@@ -30,15 +27,12 @@ four_places bs a b c d e f g h (suc (suc (suc zero))) l = h
 four_places bs a b c d e f g h (suc (suc (suc (suc p)))) l = absurd (omega arith)
 
 pub start_mono : (bs : List ℕ) (p q : ℕ) → p ≤ q → start_of bs p ≤ start_of bs q
-start_mono bs p zero l = let e : p ≡ 0 = omega arith in rw e (omega arith)
-start_mono bs p (suc q) l = elim (cases_eq p (suc q)) [
-  | inl e ↦ rw e (omega arith)
-  | inr e ↦ omega (arith, start_mono bs p q (omega arith), start_next bs q)
-]
+start_mono bs p zero l = grind arith
+start_mono bs p (suc q) l = grind (arith, start_mono bs p q, start_next bs q)
 
 -- the cards of a player of a whole deal are there
 pub within : (bs : List ℕ) (p : ℕ) → p < 4 → start_of bs 4 ≤ length bs → (start_of bs p + 1) + number_byte bs p ≤ length bs
-within bs p l w = omega (arith, start_mono bs (p + 1) 4 (omega arith), start_more bs p)
+within bs p l w = omega (arith, start_mono bs (suc p) 4 (omega arith), start_next bs p)
 
 pub largest_more : (f : ℕ → ℕ) (n : ℕ) → largest f (n + 1) ≡ max (largest f n) (f n)
 unfolding largest
@@ -60,8 +54,8 @@ pub first_some : (f : ℕ → Option ℕ) (n k x : ℕ) → k < n → first f k 
 unfolding first
 first_some f zero k x l p q = absurd (omega arith)
 first_some f (suc n) k x l p q = elim (cases_eq k n) [
-  | inl e ↦ ap₂ or_else (ap (first f) (sym e) ∙ p) (ap f (sym e) ∙ q)
-  | inr e ↦ ap (λ (o : Option ℕ). or_else o (f n)) (first_some f n k x (omega arith) p q)
+  | inl e ↦ rw (← e, p) q
+  | inr e ↦ rw (first_some f n k x (omega arith) p q) refl
 ]
 
 or_else_none : (a b : Option ℕ) → or_else a b ≡ None → (a ≡ None) × (b ≡ None)
