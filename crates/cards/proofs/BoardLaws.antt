@@ -61,10 +61,8 @@ module _ (bs : List ℕ) (trump : Trump) (hands : List Hand) (leader : Player) (
 
   hand_is : (p x : ℕ) → held hands p x ≡ (ltb p 4 && has (cards_of bs p) x)
   hand_is p x = elim (cases_lt p 4) [
-    | inl l ↦ read.dealt.1.each p l x ∙ sym (ap (λ (b : Bool). b && has (cards_of bs p) x) (lt-ltb p 4 l))
-    | inr l ↦
-        ap (λ (h : ℕ). bit h x) (get_or_past (bits_of hands) p 0 (omega (arith, read.dealt.1.four))) ∙ bit_zero x
-        ∙ sym (ap (λ (b : Bool). b && has (cards_of bs p) x) (le-ltb p 4 l))
+    | inl l ↦ rw (lt-ltb p 4 l) (read.dealt.1.each p l x)
+    | inr l ↦ rw (le-ltb p 4 l, get_or_past (bits_of hands) p 0 (omega (arith, read.dealt.1.four))) (bit_zero x)
   ]
 
   pub table_is : table_of trump hands leader trick played ≡ table_in bs

@@ -32,12 +32,9 @@ unfolding count
 count_out h c zero l e = absurd (omega arith)
 count_out h c (suc n) l e = elim (cases_eq n c) [
   | inl q ↦
-      let here : taken_out h c n ≡ false = ap (λ (b : Bool). h n && not b) (eq-eqb n c q) ∙ and-false (h n) in
-      let top : h n ≡ true = ap h q ∙ e in
       let low : count (taken_out h c) n ≡ count h n = count_same (taken_out h c) h n (λ x m. out_same h c x (λ r. omega arith)) in
-      rw (here, top) (omega arith)
-  | inr q ↦
-      rw (out_same h c n q) (omega (arith, count_out h c n (omega arith) e))
+      grind (arith, nat_tests)
+  | inr q ↦ rw (out_same h c n q) (omega (arith, count_out h c n (omega arith) e))
 ]
 
 -- one card more

@@ -3,6 +3,7 @@ use Rattle.std.proofs.Common.{◌≡◌, ℕ, zero, suc, ◌+◌, ◌<◌, ◌�
 use mathlib.Core.Bool.{or_assoc}
 use Rattle.std.proofs.lemmas.Bool.{cases_eq}
 use Rattle.std.proofs.lemmas.List.{length-take-le, length-drop, get_or-take, get_or-drop}
+use Rattle.std.proofs.lemmas.Grind.{common_steps}
 use Rattle.cards.specs.Deal.{byte, start_of, number_byte, cards_of, has, or_else, first, largest}
 
 -- where a hand ends, the next begins
@@ -20,11 +21,7 @@ next_place bs p x y e f = f ∙ ap (λ (s : ℕ). (s + 1) + byte bs s) e ∙ sym
 
 pub four_places : (bs : List ℕ) (a b c d : ℕ) → a ≡ start_of bs 0 → b ≡ start_of bs 1 → c ≡ start_of bs 2 → d ≡ start_of bs 3 →
     (p : ℕ) → p < 4 → get_or (a ∷ b ∷ c ∷ d ∷ []) p 0 ≡ start_of bs p
-four_places bs a b c d e f g h zero l = e
-four_places bs a b c d e f g h (suc zero) l = f
-four_places bs a b c d e f g h (suc (suc zero)) l = g
-four_places bs a b c d e f g h (suc (suc (suc zero))) l = h
-four_places bs a b c d e f g h (suc (suc (suc (suc p)))) l = absurd (omega arith)
+four_places bs a b c d e f g h p l = grind (arith, common_steps)
 
 pub start_mono : (bs : List ℕ) (p q : ℕ) → p ≤ q → start_of bs p ≤ start_of bs q
 start_mono bs p zero l = grind arith
@@ -60,7 +57,7 @@ first_some f (suc n) k x l p q = elim (cases_eq k n) [
 
 or_else_none : (a b : Option ℕ) → or_else a b ≡ None → (a ≡ None) × (b ≡ None)
 or_else_none None b e = (refl, e)
-or_else_none (Some x) b e = let z : ◌≡◌ {A = ℕ} 0 1 = cc in absurd (omega arith)
+or_else_none (Some x) b e = absurd (cc)
 
 pub first_clean : (f : ℕ → Option ℕ) (n k : ℕ) → first f n ≡ None → k < n → f k ≡ None
 unfolding first

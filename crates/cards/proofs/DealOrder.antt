@@ -3,6 +3,7 @@ use Rattle.std.proofs.Common.{◌≡◌, ℕ, suc, ◌+◌, ◌-◌, ◌%◌, �
 use mathlib.Core.Path.{fun_ext}
 use Rattle.std.proofs.lemmas.List.{get_or_default}
 use Rattle.std.proofs.lemmas.Bool.{lt-ltb, ltb-true, ne_eqb, eqb-true, ltb-false, not-false, not_from_false, cases_lt, cases_order, cases_Bool, and_parts, and_cases, or_parts, both_ways}
+use Rattle.std.proofs.lemmas.Bool.Decides.{nat_tests}
 use Rattle.cards.specs.Table.{one, deck, suit, has_suit, most_tricks, count, Sound, InOrder}
 use Rattle.cards.specs.Bits.{bit}
 use Rattle.cards.specs.Deal.{byte, start_of, number_byte, trick_of, cards_of, has, fault, card_fault, share, uneven, share_fault, revokes, suit_fault, table_in}
@@ -15,8 +16,11 @@ use Rattle.cards.proofs.Standing.{decides_cards}
 use Rattle.cards.proofs.CardFaults.{finds_card}
 
 no_fault : (b : Bool) (p : ℕ) → fault b p ≡ None → b ≡ false
-no_fault true p e = let z : ◌≡◌ {A = ℕ} 0 1 = cc in absurd (omega arith)
+no_fault true p e = absurd (cc)
 no_fault false p e = refl
+
+even_parts : (own each : ℕ) → uneven own each ≡ false → (own ≡ each) × (own ≤ most_tricks)
+even_parts own each e = (grind (arith, nat_tests), grind (arith, nat_tests))
 
 -- any room will do, where a check does not look at it
 some_room : Room
@@ -61,11 +65,7 @@ module _ (bs : List ℕ) (cards : card_fault bs ≡ None) where
 
     module _ (hands : List ℕ) (taken : ℕ) (lead : byte bs 1 ≤ 3) (dealt : Dealt bs 4 hands taken) (shares : share_fault bs ≡ None) (suits : suit_fault bs ≡ None) where
       even : (p : ℕ) → p < 4 → (share bs p ≡ share bs (byte bs 1)) × (share bs p ≤ most_tricks)
-      even p l =
-          let f = no_fault _ (start_of bs p) (first_clean (λ q. fault (uneven (share bs q) (share bs (byte bs 1))) (start_of bs q)) 4 p shares l) in
-          let a = or_parts (not (eqb (share bs p) (share bs (byte bs 1)))) _ f in
-          let b = or_parts (eqb (share bs p) 0) (ltb most_tricks (share bs p)) a.1 in
-          (eqb-true (share bs p) (share bs (byte bs 1)) (not-false _ a.0), ltb-false most_tricks (share bs p) b.1)
+      even p l = even_parts _ _ (no_fault _ (start_of bs p) (first_clean (λ q. fault (uneven (share bs q) (share bs (byte bs 1))) (start_of bs q)) 4 p shares l))
 
       many : (p : ℕ) → p < 4 → count ((table_in bs).hand p) deck ≡ number_byte bs p
       many p l =

@@ -19,7 +19,7 @@ finds_same to from f = record {
 
 pub finds_nothing : {P : ℕ → Type 0} → ((p : ℕ) → P p → ⊥) → Finds P None
 finds_nothing f = record {
-  here = λ p e. let z : ◌≡◌ {A = ℕ} 0 1 = cc in absurd (omega arith);
+  here = λ p e. absurd (cc);
   before = λ p e q l. f q;
   none = λ e. f;
 }
@@ -28,7 +28,7 @@ pub finds_fault : {Q : Type 0} (b : Bool) (x : ℕ) → Decides b Q → Finds (�
 finds_fault true x d = record {
   here = λ p e. (cc, d.0 refl);
   before = λ p e q l h. let s : p ≡ x = cc in omega arith;
-  none = λ e. let z : ◌≡◌ {A = ℕ} 0 1 = cc in absurd (omega arith);
+  none = λ e. absurd (cc);
 }
 finds_fault false x d = finds_nothing (λ p h. false≢true (d.1 h.1))
 
@@ -42,7 +42,7 @@ finds_or None b late f g = record {
 finds_or (Some x) b late f g = record {
   here = λ p e. inl (f.here p e);
   before = λ p e q l h. elim h [ inl y ↦ f.before p e q l y | inr y ↦ omega (arith, late p q (f.here p e) y) ];
-  none = λ e. let z : ◌≡◌ {A = ℕ} 0 1 = cc in absurd (omega arith);
+  none = λ e. absurd (cc);
 }
 
 pub finds_pick : {P Q : ℕ → Type 0} (b : Bool) (x : ℕ) (o : Option ℕ) → ((p q : ℕ) → P p → Q q → p < q) →

@@ -56,7 +56,7 @@ module _ (bs : List ℕ) (F : Check → ℕ → Type 0) (find : Check → Option
 
   taken_right : Clean 7 → RightOf F bs (run_by find bs [])
   taken_right clean = record {
-    refused = λ n p e. let z : ◌≡◌ {A = ℕ} 0 1 = cc in absurd (omega arith);
+    refused = λ n p e. absurd (cc);
     refuses_first = λ k p f. absurd (clean k p (order_below k) f.here);
     taken = λ t size e k p. clean k p (order_below k);
     takes = λ f. refl;
@@ -82,7 +82,7 @@ module _ (bs : List ℕ) (F : Check → ℕ → Type 0) (find : Check → Option
   refused_right k p f = record {
     refused = λ n q e. (k, cc, subst (λ (x : ℕ). FirstOf F k x) (let s : p ≡ q = cc in s) f);
     refuses_first = λ j q g. first_once k j p q f g;
-    taken = λ t size e. let z : ◌≡◌ {A = ℕ} 0 1 = cc in absurd (omega arith);
+    taken = λ t size e. absurd (cc);
     takes = λ clean. absurd (clean k p f.here);
   }
 

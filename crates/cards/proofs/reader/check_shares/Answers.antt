@@ -6,8 +6,7 @@ use Rattle.cards.proofs.reader.check_shares.Goals as goal
 -- the fault of a player's share, by the numbers that the code has for it
 share_is : (bs : List ℕ) (p seat own each : ℕ) (b : Bool) → own ≡ share bs p → each ≡ share bs seat → seat ≡ byte bs 1 → b ≡ uneven own each →
     fault (uneven (share bs p) (share bs (byte bs 1))) (start_of bs p) ≡ fault b (start_of bs p)
-share_is bs p seat own each b o e s t =
-    ap₂ (λ (x y : ℕ). fault (uneven x y) (start_of bs p)) (sym o) (ap (share bs) (sym s) ∙ sym e) ∙ ap (λ (x : Bool). fault x (start_of bs p)) (sym t)
+share_is bs p seat own each b o e s t = rw (t, o, e, s) refl
 
 pub loop-p-init : goal.loop-p-init
 unfolding first

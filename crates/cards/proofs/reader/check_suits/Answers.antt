@@ -12,10 +12,7 @@ use Rattle.cards.proofs.reader.check_suits.Goals as goal
 -- the test of a card, by what the code reads from its arrays
 against_at : (trick : List Card) (hands : List Hand) (seat i p : ℕ) (led card : Card) (hand : Hand) → card.number ≡ get_or (numbers trick) i 0 → 0 < length trick → p < length hands → p ≡ (seat + i) % 4 →
     against (numbers trick) (held hands) seat i ≡ (not (eqb (suit card.number) (suit (get_or trick 0 led).number)) && has_suit (bit (get_or hands p hand).bits) (suit (get_or trick 0 led).number) deck)
-against_at trick hands seat i p led card hand is l n e =
-    ap₂ (λ (x y : ℕ). not (eqb (suit x) (suit y)) && has_suit (held hands ((seat + i) % 4)) (suit y) deck) (sym is) (get_or-map (λ c. c.number) trick 0 led 0 l)
-    ∙ ap (λ (x : ℕ). not (eqb (suit card.number) (suit (get_or trick 0 led).number)) && has_suit (bit x) (suit (get_or trick 0 led).number) deck)
-    (ap (λ (q : ℕ). get_or (bits_of hands) q 0) (sym e) ∙ get_or-map (λ h. h.bits) hands p hand 0 n)
+against_at trick hands seat i p led card hand is l n e = rw (← get_or-map (λ c. c.number) trick 0 led 0 l, ← get_or-map (λ h. h.bits) hands p hand 0 n, is, e) refl
 
 -- a card among the first so many of a trick
 card_is : (trick : List Card) (n i : ℕ) (card : Card) → i < n → i < length trick → card ≡ get_or (take n trick) i card → card.number ≡ get_or (numbers trick) i 0
