@@ -7,7 +7,7 @@ use Rattle.cards.specs.Table.{Table, one, deck, suit, has_suit, count, InOrder}
 use Rattle.cards.specs.Bits.{bit}
 use Rattle.cards.specs.Numbers.{trump_number}
 use Rattle.cards.specs.Hands.{bits_of, held, numbers, table_of, tricks_of, Kept}
-use Rattle.cards.specs.Deal.{byte, start_of, trick_of, cards_of, has, or_else, first, fault, first_bad, card_fault, share, share_fault, against, revokes, suit_fault, table_in}
+use Rattle.cards.specs.Deal.{byte, start_of, trick_of, cards_of, has, or_else, first, fault, first_bad, hand_fault, card_fault, share, share_fault, against, revokes, suit_fault, table_in}
 use Rattle.cards.specs.Parts.{Dealt}
 use Rattle.cards.specs.declared.card.Card.{Card}
 use Rattle.cards.specs.declared.card.Trump.{Trump}
@@ -16,12 +16,11 @@ use Rattle.cards.specs.declared.player.Player.{Player}
 use Rattle.cards.proofs.BitLaws.{bit_zero}
 use Rattle.cards.proofs.DealOrder.{trick_long, trick_at, trick_low, deal_in_order}
 
--- the check of the trick, by the cards and the set of no cards that the code begins with
-pub trick_check : (bs cs : List ℕ) (empty played : ℕ) (o : Option ℕ) → cs ≡ take played (drop 3 bs) → ((x : ℕ) → bit empty x ≡ false) → played ≡ byte bs 2 →
-    first_bad (bit empty) 3 cs ≡ o → first_bad (has []) 3 (trick_of bs) ≡ o
+-- the check of the cards, with that of the trick by the cards and the set of no cards that the code begins with
+pub cards_check : (bs cs : List ℕ) (empty played : ℕ) → cs ≡ take played (drop 3 bs) → ((x : ℕ) → bit empty x ≡ false) → played ≡ byte bs 2 →
+    card_fault bs ≡ or_else (first_bad (bit empty) 3 cs) (first (hand_fault bs) 4)
 unfolding has
-trick_check bs cs empty played o are none e h =
-    ap₂ (λ (s : ℕ → Bool) (n : ℕ). first_bad s 3 (take n (drop 3 bs))) (sym (fun_ext none)) (sym e) ∙ ap (first_bad (bit empty) 3) (sym are) ∙ h
+cards_check bs cs empty played are none e = rw (are, e) (ap (λ (s : ℕ → Bool). or_else (first_bad s 3 (trick_of bs)) (first (hand_fault bs) 4)) (sym (fun_ext none)))
 
 first_same : (f g : ℕ → Option ℕ) (n : ℕ) → ((i : ℕ) → i < n → f i ≡ g i) → first f n ≡ first g n
 unfolding first

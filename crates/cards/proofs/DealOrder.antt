@@ -2,7 +2,7 @@
 use Rattle.std.proofs.Common.{◌≡◌, ℕ, suc, ◌+◌, ◌-◌, ◌%◌, ◌<◌, ◌≤◌, Bool, true, false, not, ◌&&◌, eqb, ltb, List, length, get_or, None, sym, refl, ap, ◌∙◌, subst, ap₂, inl, inr, arith}
 use mathlib.Core.Path.{fun_ext}
 use Rattle.std.proofs.lemmas.List.{get_or_default}
-use Rattle.std.proofs.lemmas.Bool.{lt-ltb, ltb-true, ne_eqb, eqb-true, ltb-false, not-false, not_from_false, cases_lt, cases_order, cases_Bool, and_parts, and_cases, or_parts, both_ways}
+use Rattle.std.proofs.lemmas.Bool.{lt-ltb, ltb-true, ne_eqb, eqb-true, ltb-false, not-false, not_from_false, cases_lt, cases_order, cases_Bool, and_parts, and_cases, or_parts, both_ways, false_from_ne_true}
 use Rattle.std.proofs.lemmas.Bool.Decides.{nat_tests}
 use Rattle.cards.specs.Table.{one, deck, suit, has_suit, most_tricks, count, Sound, InOrder}
 use Rattle.cards.specs.Bits.{bit}
@@ -87,13 +87,10 @@ module _ (bs : List ℕ) (cards : card_fault bs ≡ None) where
             let l = ltb-true p 4 (and_parts (ltb p 4) (has (cards_of bs p) x) h).0 in
             let (r, hr, e) = hand_place p x l h in
             subst (λ (c : ℕ). c < deck) e (good_card r (inr (p, l, hr)));
-        played = λ i d l p lp. elim (cases_Bool ((table_in bs).hand p (get_or (trick_of bs) i d))) [
-          | inl h ↦
-              let k : i < byte bs 2 = omega (arith, trick_long) in
-              let (r, hr, e) = hand_place p (get_or (trick_of bs) i d) lp h in
-              absurd (once_only (3 + i) r (inl (trick_place i k)) (inr (p, lp, hr)) (omega (arith, hr.0, (trick_place i k).1, start_mono bs 0 p (omega arith))) (trick_at i k ∙ get_or_default (trick_of bs) i 0 d l ∙ sym e))
-          | inr h ↦ h
-        ];
+        played = λ i d l p lp. false_from_ne_true _ (λ h.
+            let k : i < byte bs 2 = omega (arith, trick_long) in
+            let (r, hr, e) = hand_place p (get_or (trick_of bs) i d) lp h in
+            once_only (3 + i) r (inl (trick_place i k)) (inr (p, lp, hr)) (omega (arith, hr.0, (trick_place i k).1, start_mono bs 0 p (omega arith))) (trick_at i k ∙ get_or_default (trick_of bs) i 0 d l ∙ sym e));
         have = λ i l.
             let p : ℕ = (byte bs 1 + i) % 4 in
             let seat : i ≡ ((p + 4) - byte bs 1) % 4 = omega arith in
@@ -111,12 +108,8 @@ module _ (bs : List ℕ) (cards : card_fault bs ≡ None) where
         suited = λ i l ne.
             let k : i < byte bs 2 = omega (arith, trick_long) in
             let f : revokes bs i ≡ false = no_fault _ (3 + i) (first_clean (λ j. fault (revokes bs j) (3 + j)) (byte bs 2) i suits k) in
-            let other : not (eqb (suit (byte bs (3 + i))) (suit (byte bs 3))) ≡ true =
-            not_from_false _ (ne_eqb _ _ (λ e. ne (ap suit (sym (trick_at i k)) ∙ e ∙ ap suit (trick_at 0 (omega arith))))) in
             let p : ℕ = (byte bs 1 + i) % 4 in
             let own : has (cards_of bs p) ≡ (table_in bs).hand p = fun_ext (λ x. sym (ap (λ (b : Bool). b && has (cards_of bs p) x) (lt-ltb p 4 (omega arith)))) in
-            elim (and_cases _ _ f) [
-              | inl z ↦ absurd (both_ways _ z other)
-              | inr z ↦ ap₂ (λ (h : ℕ → Bool) (c : ℕ). has_suit h (suit c) deck) (sym own) (sym (trick_at 0 (omega arith))) ∙ z
-            ];
+            let z : has_suit (has (cards_of bs p)) (suit (byte bs 3)) deck ≡ false = grind (arith, nat_tests, trick_at i k, trick_at 0 (omega arith)) in
+            ap₂ (λ (h : ℕ → Bool) (c : ℕ). has_suit h (suit c) deck) (sym own) (sym (trick_at 0 (omega arith))) ∙ z;
       }

@@ -96,11 +96,9 @@ unfolding before
 dealt_more bs hands taken hand more n d l w g add = record {
   four = length-set hands n hand ∙ d.four;
   all = λ x. rw add-one (add x ∙ ap₂ (λ (a b : Bool). a || b) (d.all x) (g.holds x) ∙ sym (has_append (before bs n) (cards_of bs n) x));
-  each = below_more (λ p. (x : ℕ) → bit (get_or (set hands n hand) p 0) x ≡ has (cards_of bs p) x) n
-      (λ p k x. ap (λ (h : ℕ). bit h x) (other p k) ∙ d.each p k x) (λ x. ap (λ (h : ℕ). bit h x) own ∙ g.holds x);
-  many = below_more (λ p. count (bit (get_or (set hands n hand) p 0)) deck ≡ number_byte bs p) n
-      (λ p k. ap (λ (h : ℕ). count (bit h) deck) (other p k) ∙ d.many p k)
-      (ap (λ (h : ℕ). count (bit h) deck) own ∙ g.many ∙ part_length bs (start_of bs n + 1) (number_byte bs n) (within bs n l w));
+  each = below_more (λ p. (x : ℕ) → bit (get_or (set hands n hand) p 0) x ≡ has (cards_of bs p) x) n (λ p k x. rw (other p k) (d.each p k x)) (λ x. rw own (g.holds x));
+  many = below_more (λ p. count (bit (get_or (set hands n hand) p 0)) deck ≡ number_byte bs p) n (λ p k. rw (other p k) (d.many p k))
+      (rw own (g.many ∙ part_length bs (start_of bs n + 1) (number_byte bs n) (within bs n l w)));
 }
   where
     own : get_or (set hands n hand) n 0 ≡ hand
