@@ -29,34 +29,11 @@ holds_more bs Seen old i holds x =
 -- the first of some cards is bad, or one of those after it
 join_bad : (bs : List ℕ) (Seen : ℕ → Type 0) (i n : ℕ) → i < length bs → (p : ℕ) →
     ((p ≡ i) × Bad bs Seen i i) ⊎ (Among bs (suc i) n p × Bad bs (λ q. Seen q ⊎ (q ≡ i)) (suc i) p) → Among bs i (suc n) p × Bad bs Seen i p
-join_bad bs Seen i n l p (inl h) = ((omega arith, omega arith, omega arith), subst (Bad bs Seen i) (sym h.0) h.1)
-join_bad bs Seen i n l p (inr h) = (
-  (omega arith, omega arith, omega arith),
-  elim h.1 [
-    | inl d ↦ inl d
-    | inr a ↦ inr (a.0, elim a.1 [ inl s ↦ elim s [ inl t ↦ inl t | inr e ↦ inr (omega arith, omega arith) ] | inr s ↦ inr (omega arith, s.1) ], a.2)
-  ],
-)
+join_bad bs Seen i n l p h = grind arith
 
 split_bad : (bs : List ℕ) (Seen : ℕ → Type 0) (i n p : ℕ) →
     Among bs i (suc n) p × Bad bs Seen i p → ((p ≡ i) × Bad bs Seen i i) ⊎ (Among bs (suc i) n p × Bad bs (λ q. Seen q ⊎ (q ≡ i)) (suc i) p)
-split_bad bs Seen i n p h = elim (cases_eq p i) [
-  | inl e ↦ inl (e, subst (Bad bs Seen i) e h.1)
-  | inr e ↦ inr (
-    (omega arith, omega arith, omega arith),
-    elim h.1 [
-      | inl d ↦ inl d
-      | inr a ↦ inr (
-        a.0,
-        elim a.1 [
-          | inl s ↦ inl (inl s)
-          | inr s ↦ elim (cases_eq a.0 i) [ inl r ↦ inl (inr r) | inr r ↦ inr (omega arith, s.1) ]
-        ],
-        a.2,
-      )
-    ],
-  )
-]
+split_bad bs Seen i n p h = grind (arith, cases_eq p i)
 
 decides_bad : (bs : List ℕ) (Seen : ℕ → Type 0) (old : ℕ → Bool) (i : ℕ) → Holds bs Seen old →
     Decides (not (ltb (byte bs i) deck) || old (byte bs i)) (Bad bs Seen i i)
