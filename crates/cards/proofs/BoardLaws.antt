@@ -75,9 +75,7 @@ module _ (bs : List ℕ) (trump : Trump) (hands : List Hand) (leader : Player) (
       let p : ℕ = (byte bs 1 + i) % 4 in
       let own : has (cards_of bs p) ≡ held hands ((leader.seat + i) % 4) =
       fun_ext (λ x. sym (read.dealt.1.each p (omega arith) x)) ∙ ap (λ (s : ℕ). held hands ((s + i) % 4)) (sym read.leads) in
-      ap (λ (b : Bool). fault b (3 + i))
-      (ap₂ (λ (c d : ℕ). not (eqb (suit c) (suit d)) && has_suit (has (cards_of bs p)) (suit d) deck) (sym (lies i l)) (sym (lies 0 (omega arith)))
-      ∙ ap (λ (h : ℕ → Bool). not (eqb (suit (get_or (numbers trick) i 0)) (suit (get_or (numbers trick) 0 0))) && has_suit h (suit (get_or (numbers trick) 0 0)) deck) own))
+      rw (lies i l, lies 0 (omega arith), own) refl)
       ∙ ap (first (λ i. fault (against (numbers trick) (held hands) leader.seat i) (3 + i))) (sym read.many)
 
   pub kept : share_fault bs ≡ None → suit_fault bs ≡ None → Kept trump hands leader trick played

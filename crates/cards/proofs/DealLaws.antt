@@ -62,9 +62,7 @@ or_else_none (Some x) b e = absurd (cc)
 pub first_clean : (f : ℕ → Option ℕ) (n k : ℕ) → first f n ≡ None → k < n → f k ≡ None
 unfolding first
 first_clean f zero k e l = absurd (omega arith)
-first_clean f (suc n) k e l =
-    let q = or_else_none (first f n) (f n) e in
-    elim (cases_eq k n) [ inl r ↦ ap f r ∙ q.1 | inr r ↦ first_clean f n k q.0 (omega arith) ]
+first_clean f (suc n) k e l = grind (arith, or_else_none (first f n) (f n), first_clean f n k)
 
 -- what is among the cards of two lists
 pub has_append : (xs ys : List ℕ) (x : ℕ) → has (xs ++ ys) x ≡ (has xs x || has ys x)

@@ -64,19 +64,7 @@ module _ (bs : List ℕ) (F : Check → ℕ → Type 0) (find : Check → Option
 
   -- a first refusal is the only one
   first_once : (j k : Check) (p q : ℕ) → FirstOf F j p → FirstOf F k q → refuses (number j) p ≡ refuses (number k) q
-  first_once j k p q f g = elim (cases_order (order j) (order k)) [
-    | inl e ↦ elim (cases_order p q) [
-      | inl s ↦ let same : j ≡ k = same_from_order j k e in cc
-      | inr o ↦ elim o [
-        | inl l ↦ absurd (g.before p l (subst (λ (i : Check). F i p) (same_from_order j k e) f.here))
-        | inr l ↦ absurd (f.before q l (subst (λ (i : Check). F i q) (sym (same_from_order j k e)) g.here))
-      ]
-    ]
-    | inr o ↦ elim o [
-      | inl l ↦ absurd (g.earlier j p l f.here)
-      | inr l ↦ absurd (f.earlier k q l g.here)
-    ]
-  ]
+  first_once j k p q f g = grind (arith, cases_order (order j) (order k), cases_order p q, same_from_order j k)
 
   refused_right : (k : Check) (p : ℕ) → FirstOf F k p → RightOf F bs (refuses (number k) p)
   refused_right k p f = record {

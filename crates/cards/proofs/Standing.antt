@@ -34,16 +34,7 @@ decides_part bs i zero x = (λ e. absurd (false≢true e), λ h. absurd (omega a
 decides_part bs i (suc n) x = elim (cases_lt i (length bs)) [
   | inl l ↦
       Decides-at _ (eqb x (byte bs i) || has (take n (drop (suc i) bs)) x) (ap (λ (cs : List ℕ). has (take (suc n) cs) x) (drop-cons bs i 0 l))
-      (Decides-like _
-      (λ h. elim h [
-        | inl e ↦ (i, (omega arith, omega arith, l), sym e)
-        | inr a ↦ (a.0, (omega arith, omega arith, a.1.2), a.2)
-      ])
-      (λ a. elim (cases_eq a.0 i) [
-        | inl e ↦ inl (sym a.2 ∙ ap (byte bs) e)
-        | inr e ↦ inr (a.0, (omega arith, omega arith, a.1.2), a.2)
-      ])
-      (Decides-or _ _ (Decides-eqb x (byte bs i)) (decides_part bs (suc i) n x)))
+      (Decides-like _ (λ h. grind arith) (λ a. grind (arith, cases_eq a.0 i)) (Decides-or _ _ (Decides-eqb x (byte bs i)) (decides_part bs (suc i) n x)))
   | inr l ↦
       Decides-at _ false (ap (λ (cs : List ℕ). has (take (suc n) cs) x) (drop_all i bs l)) (λ e. absurd (false≢true e), λ h. absurd (omega arith))
 ]
@@ -66,16 +57,5 @@ decides_before bs zero x =
     (decides_part bs 3 (byte bs 2) x)
 decides_before bs (suc k) x =
     Decides-at _ (has (before bs k) x || has (cards_of bs k) x) (has_append (before bs k) (cards_of bs k) x)
-    (Decides-like _
-    (λ h. elim h [
-      | inl a ↦ (a.0, elim a.1 [ inl t ↦ inl t | inr c ↦ inr (c.0, omega arith, c.2) ], a.2)
-      | inr a ↦ (a.0, inr (k, omega arith, a.1), a.2)
-    ])
-    (λ h. elim h.1 [
-      | inl t ↦ inl (h.0, inl t, h.2)
-      | inr c ↦ elim (cases_eq c.0 k) [
-        | inl e ↦ inr (h.0, subst (λ (j : ℕ). HandCard bs j h.0) e c.2, h.2)
-        | inr e ↦ inl (h.0, inr (c.0, omega arith, c.2), h.2)
-      ]
-    ])
+    (Decides-like _ (λ h. grind arith) (λ h. elim h.1 [ inl t ↦ inl (h.0, inl t, h.2) | inr c ↦ grind (arith, cases_eq c.0 k) ])
     (Decides-or _ _ (decides_before bs k x) (decides_cards bs k x)))
