@@ -30,7 +30,7 @@ pub bit_single : (c d : ℕ) → c < deck → bit ((1 * 2 ^ c) % 184467440737095
 bit_single c d l = rw (one_shl c 64 (omega arith)) (bit_pow c d)
 
 pub single_low : (c : ℕ) → c < deck → (1 * 2 ^ c) % 18446744073709551616 < 2 ^ deck
-single_low c l = subst (λ (m : ℕ). m < 2 ^ deck) (sym (one_shl c 64 (omega arith))) (pow_below c deck l)
+single_low c l = rw (one_shl c 64 (omega arith)) (pow_below c deck l)
 
 -- the cards of one set that are not in another, h & !k at 64 bits
 both_bits : (x y z n : ℕ) → z ≡ min x n → x < 2 → y < 2 → n < 2 → (x ≡ 0) ⊎ (n ≡ 1 - y) → eqb z 1 ≡ (eqb x 1 && not (eqb y 1))

@@ -81,10 +81,10 @@ module _ (bs : List ℕ) (trump : Trump) (hands : List Hand) (leader : Player) (
   pub kept : share_fault bs ≡ None → suit_fault bs ≡ None → Kept trump hands leader trick played
   kept shares suits =
       let o = deal_in_order bs read.cards three_at_most read.whole (bits_of hands) read.dealt.0 (omega (arith, read.leads, leader.low)) read.dealt.1 shares suits in
-      let t : InOrder (table_of trump hands leader trick played) (share bs (byte bs 1)) = subst (λ (u : Table). InOrder u (share bs (byte bs 1))) (sym table_is) o in
+      let t : InOrder (table_of trump hands leader trick played) (share bs (byte bs 1)) = rw table_is o in
       let h = t.sound.have 0 (omega arith) in
       let k : length (take played (numbers trick)) ≡ played = length-take-le played (numbers trick) (omega (arith, length-map trick (λ c. c.number), read.three, read.few)) in
       let seat : (leader.seat + 0) % 4 ≡ leader.seat = omega (arith, leader.low) in
       let n : tricks_of hands leader played ≡ share bs (byte bs 1) =
       ap₂ (λ (p m : ℕ). count (held hands p) deck + one (ltb 0 m)) (sym seat) (sym k) ∙ h in
-      ∣ subst (λ (m : ℕ). InOrder (table_of trump hands leader trick played) m) (sym n) t ∣₁
+      ∣ rw n t ∣₁

@@ -44,11 +44,11 @@ unfolding first_bad
 finds_bad bs Seen old i zero holds = finds_nothing (λ p h. omega arith)
 finds_bad bs Seen old i (suc n) holds = elim (cases_lt i (length bs)) [
   | inl l ↦
-      subst (Finds _) (sym (ap (λ (cs : List ℕ). first_bad old i (take (suc n) cs)) (drop-cons bs i 0 l)))
+      rw (drop-cons bs i 0 l)
       (finds_same (join_bad bs Seen i n l) (split_bad bs Seen i n)
       (finds_pick _ i _ (λ p q h g. omega arith)
       (finds_fault _ i (decides_bad bs Seen old i holds)) (finds_bad bs (λ q. Seen q ⊎ (q ≡ i)) _ (suc i) n (holds_more bs Seen old i holds))))
-  | inr l ↦ subst (Finds _) (sym (ap (λ (cs : List ℕ). first_bad old i (take (suc n) cs)) (drop_all i bs l))) (finds_nothing (λ p h. omega arith))
+  | inr l ↦ rw (drop_all i bs l) (finds_nothing (λ p h. omega arith))
 ]
 
 -- the card at p is none, or stands at an earlier place too

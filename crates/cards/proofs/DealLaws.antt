@@ -17,7 +17,7 @@ unfolding start_of
 first_place bs n e = ap (λ (x : ℕ). 3 + x) e
 
 pub next_place : (bs : List ℕ) (p x y : ℕ) → x ≡ start_of bs p → y ≡ (x + 1) + byte bs x → y ≡ start_of bs (suc p)
-next_place bs p x y e f = f ∙ ap (λ (s : ℕ). (s + 1) + byte bs s) e ∙ sym (start_next bs p)
+next_place bs p x y e f = rw (start_next bs p, ← e) f
 
 pub four_places : (bs : List ℕ) (a b c d : ℕ) → a ≡ start_of bs 0 → b ≡ start_of bs 1 → c ≡ start_of bs 2 → d ≡ start_of bs 3 →
     (p : ℕ) → p < 4 → get_or (a ∷ b ∷ c ∷ d ∷ []) p 0 ≡ start_of bs p
@@ -73,10 +73,8 @@ has_append (y ∷ xs) ys x = ap (λ (b : Bool). eqb x y || b) (has_append xs ys 
 -- what is said of the cards after a number byte is said of the hand that begins there
 pub cards_at : (bs : List ℕ) (p start number : ℕ) (cs : List ℕ) → start ≡ start_of bs p → number ≡ byte bs start → cs ≡ take number (drop (start + 1) bs) →
     (P : ℕ → List ℕ → Type 0) → P (start + 1) cs → P (start_of bs p + 1) (cards_of bs p)
-cards_at bs p start number cs e f g P h =
-    subst (λ (s : ℕ). P (s + 1) (take (byte bs s) (drop (s + 1) bs))) e
-    (subst (λ (n : ℕ). P (start + 1) (take n (drop (start + 1) bs))) f (subst (P (start + 1)) g h))
+cards_at bs p start number cs e f g P h = rw (← e, ← f, ← g) h
 
 -- the cards after a number byte of a whole deal are there
 pub cards_there : (bs : List ℕ) (p start : ℕ) → start ≡ start_of bs p → p < 4 → start_of bs 4 ≤ length bs → (start + 1) + byte bs start ≤ length bs
-cards_there bs p start e l w = subst (λ (x : ℕ). (x + 1) + byte bs x ≤ length bs) (sym e) (within bs p l w)
+cards_there bs p start e l w = rw e (within bs p l w)

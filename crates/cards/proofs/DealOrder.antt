@@ -28,10 +28,7 @@ some_room = record { cards = 0; plays = 0; positions = 0; worths = 0 }
 
 module _ (bs : List ℕ) (cards : card_fault bs ≡ None) where
   good_card : (p : ℕ) → CardPlace bs p → byte bs p < deck
-  good_card p h = elim (cases_lt (byte bs p) deck) [
-    | inl l ↦ l
-    | inr l ↦ absurd ((finds_card 0 bs some_room).none cards p (h, inl l))
-  ]
+  good_card p h = grind (arith, (finds_card 0 bs some_room).none cards p)
 
   -- the same card does not stand in two places
   once_only : (q p : ℕ) → CardPlace bs q → CardPlace bs p → q < p → byte bs q ≡ byte bs p → ⊥
@@ -76,13 +73,7 @@ module _ (bs : List ℕ) (cards : card_fault bs ≡ None) where
       sound = record {
         leads = omega arith;
         short = omega (arith, trick_long);
-        once = λ p q x lp lq a b. elim (cases_order p q) [
-          | inl e ↦ e
-          | inr o ↦ elim o [
-            | inl l ↦ absurd (hands_apart p q x l lq a b)
-            | inr l ↦ absurd (hands_apart q p x l lp b a)
-          ]
-        ];
+        once = λ p q x lp lq a b. grind (arith, hands_apart p q x, hands_apart q p x);
         cards = λ x p h.
             let l = ltb-true p 4 (and_parts (ltb p 4) (has (cards_of bs p) x) h).0 in
             let (r, hr, e) = hand_place p x l h in

@@ -82,14 +82,14 @@ module _ (bs : List ℕ) (F : Check → ℕ → Type 0) (find : Check → Option
           | inl s ↦ (finds k).none e q (subst (λ (i : Check). F i q) (same_from_order j k (s ∙ sym row.0)) h)
           | inr s ↦ clean j q (omega arith) h
         ] in
-        subst (λ (o : Option ℕ). RightOf F bs (refuse_at o (number k) (run_by find bs ks))) (sym e) (run_right ks (suc m) row.1 more)
+        rw e (run_right ks (suc m) row.1 more)
     | inr h ↦
         let f : FirstOf F k h.0 = record {
           here = (finds k).here h.0 h.1;
           before = (finds k).before h.0 h.1;
           earlier = λ j q l. clean j q (omega arith);
         } in
-        subst (λ (o : Option ℕ). RightOf F bs (refuse_at o (number k) (run_by find bs ks))) (sym h.1) (refused_right k h.0 f)
+        rw h.1 (refused_right k h.0 f)
   ]
 
   checks_right : RightOf F bs (run_by find bs checks)

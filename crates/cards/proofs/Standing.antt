@@ -33,10 +33,10 @@ unfolding has
 decides_part bs i zero x = (λ e. absurd (false≢true e), λ h. absurd (omega arith))
 decides_part bs i (suc n) x = elim (cases_lt i (length bs)) [
   | inl l ↦
-      Decides-at _ (eqb x (byte bs i) || has (take n (drop (suc i) bs)) x) (ap (λ (cs : List ℕ). has (take (suc n) cs) x) (drop-cons bs i 0 l))
+      rw (drop-cons bs i 0 l)
       (Decides-like _ (λ h. grind arith) (λ a. grind (arith, cases_eq a.0 i)) (Decides-or _ _ (Decides-eqb x (byte bs i)) (decides_part bs (suc i) n x)))
   | inr l ↦
-      Decides-at _ false (ap (λ (cs : List ℕ). has (take (suc n) cs) x) (drop_all i bs l)) (λ e. absurd (false≢true e), λ h. absurd (omega arith))
+      rw (drop_all i bs l) (λ e. absurd (false≢true e), λ h. absurd (omega arith))
 ]
 
 pub decides_cards : (bs : List ℕ) (k x : ℕ) → Decides (has (cards_of bs k) x) ((p : ℕ) × HandCard bs k p × (byte bs p ≡ x))

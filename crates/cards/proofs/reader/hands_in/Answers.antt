@@ -44,6 +44,6 @@ loop-p-preserved c =
     let d = c.loop-p.invariant.1 in
     let g = cards_at bs p _ _ _ (c.args.layout.now.placed p c.loop-p-test.true) c.byte_at.ensures c.part-cards.ensures (λ i cs. (first_bad (bit taken) i cs ≡ None) × Gathered cs hand) c.in_ok-hand.ensures in (
       first_none (hand_fault bs) p c.loop-p.invariant.0 (fault_at bs _ taken p None d g.0),
-      subst (λ (xs : List ℕ). Dealt bs (p + 1) xs c.union-taken.result.bits) (sym (map-set (λ h. h.bits) c.loop-p.hands p c.in_ok-hand.hand))
+      rw (map-set (λ h. h.bits) c.loop-p.hands p c.in_ok-hand.hand)
           (dealt_more bs (bits_of c.loop-p.hands) taken hand _ p d c.loop-p-test.true c.requires.whole g.1 c.union-taken.ensures),
     )
