@@ -58,9 +58,6 @@ finds_first P f zero late each = finds_nothing (λ p h. omega arith)
 finds_first P f (suc n) late each =
     finds_same
     (λ p h. elim h [ inl x ↦ (x.0, omega arith, x.2) | inr x ↦ (n, omega arith, x) ])
-    (λ p h. elim (cases_eq h.0 n) [
-      | inl e ↦ inr (subst (λ (k : ℕ). P k p) e h.2)
-      | inr e ↦ inl (h.0, omega arith, h.2)
-    ])
+    (λ p h. grind (arith, cases_eq h.0 n))
     (finds_or (first f n) (f n) (λ p q x y. late x.0 n p q x.1 x.2 y)
     (finds_first P f n late (λ k l. each k (omega arith))) (each n (omega arith)))
