@@ -1,5 +1,5 @@
 -- The bits of a set of cards, with one put in or taken out. Assumes nothing.
-use Rattle.std.proofs.Common.{◌≡◌, ℕ, ◌-◌, ◌*◌, ◌%◌, ◌^◌, ◌<◌, ◌≤◌, min, ◌⊎◌, false, not, ◌&&◌, ◌||◌, eqb, sym, ap, subst, inl, inr, arith}
+use Rattle.std.proofs.Common.{◌≡◌, ℕ, ◌-◌, ◌*◌, ◌%◌, ◌^◌, ◌<◌, ◌≤◌, min, ◌⊎◌, false, not, ◌&&◌, ◌||◌, eqb, ap, inl, inr, arith}
 use mir.Syntax.{w64}
 use lib.Bits.{bit_and, bit_or}
 use Rattle.std.proofs.lemmas.Nat.{pow_below, one_shl}

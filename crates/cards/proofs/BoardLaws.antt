@@ -1,9 +1,9 @@
 -- The board that the reader makes of a deal stands for the table that the deal says. Assumes nothing.
-use Rattle.std.proofs.Common.{◌≡◌, ℕ, zero, suc, ◌+◌, ◌%◌, ◌<◌, ◌≤◌, Bool, false, not, ◌&&◌, eqb, ltb, List, [], length, get_or, take, drop, None, Option, sym, refl, ap, ◌∙◌, subst, ap₂, inl, inr, arith}
+use Rattle.std.proofs.Common.{◌≡◌, ℕ, zero, suc, ◌+◌, ◌%◌, ◌<◌, ◌≤◌, Bool, false, ◌&&◌, ltb, List, length, get_or, take, drop, None, Option, sym, refl, ap, ◌∙◌, ap₂, inl, inr, arith}
 use mathlib.Core.Path.{fun_ext}
 use Rattle.std.proofs.lemmas.List.{length-map, length-take-le, get_or-take, get_or_past, ext_get_or}
 use Rattle.std.proofs.lemmas.Bool.{lt-ltb, le-ltb, cases_lt}
-use Rattle.cards.specs.Table.{Table, one, deck, suit, has_suit, count, InOrder}
+use Rattle.cards.specs.Table.{one, deck, count, InOrder}
 use Rattle.cards.specs.Bits.{bit}
 use Rattle.cards.specs.Numbers.{trump_number}
 use Rattle.cards.specs.Hands.{bits_of, held, numbers, table_of, tricks_of, Kept}

@@ -1,6 +1,6 @@
 -- The first card of a deal that is none or stands there twice. Assumes nothing.
-use Rattle.std.proofs.Common.{◌≡◌, ℕ, zero, suc, ◌+◌, ◌<◌, ◌≤◌, Bool, false, not, ◌||◌, eqb, ltb, ◌⊎◌, List, [], length, take, drop, Decides, sym, refl, ap, ◌∙◌, subst, inl, inr, arith, drop-cons}
-use Rattle.std.proofs.lemmas.Bool.{cases_eq, cases_lt, cases_order, false≢true}
+use Rattle.std.proofs.Common.{◌≡◌, ℕ, zero, suc, ◌+◌, ◌<◌, ◌≤◌, Bool, false, not, ◌||◌, eqb, ltb, ◌⊎◌, List, [], length, take, drop, Decides, inl, inr, arith, drop-cons}
+use Rattle.std.proofs.lemmas.Bool.{cases_eq, cases_lt, false≢true}
 use Rattle.std.proofs.lemmas.List.{drop_all}
 use Rattle.std.proofs.lemmas.Bool.Decides.{Decides-like, Decides-not, Decides-or, Decides-eqb, Decides-ltb}
 use Rattle.cards.specs.Table.{deck}
@@ -9,7 +9,7 @@ use Rattle.cards.specs.Faults.{TrickCard, HandCard, CardPlace, Fault, bad_card}
 use Rattle.cards.specs.declared.room.Room.{Room}
 use Rattle.cards.proofs.Finds.{Finds, finds_same, finds_nothing, finds_fault, finds_or, finds_pick, finds_first}
 use Rattle.cards.proofs.DealLaws.{start_next, start_mono}
-use Rattle.cards.proofs.Standing.{Among, CardBefore, trick_among, among_trick, hand_among, among_hand, decides_before}
+use Rattle.cards.proofs.Standing.{Among, CardBefore, trick_among, among_trick, among_hand, decides_before}
 
 -- the card at p is none, or the same as one that was seen, or as one from place i on before it
 abbrev Bad : List ℕ → (ℕ → Type 0) → ℕ → ℕ → Type 0

@@ -2,7 +2,7 @@
 use Rattle.std.proofs.Common.{◌≡◌, ℕ, zero, suc, ◌<◌, ◌⊎◌, List, [], ◌∷◌, Some, None, Option, sym, refl, ap, ◌∙◌, subst, inl, inr, arith}
 use Rattle.std.proofs.lemmas.Bool.{cases_order, cases_eq}
 use Rattle.cards.specs.Faults.{Check, bad_trump, bad_lead, no_room, cut_short, bad_card, bad_share, bad_suit, order, number, Fault, FirstOf}
-use Rattle.cards.specs.Reading.{Right, RightOf, refuses, refuse_at, found, run_by, checks, reading}
+use Rattle.cards.specs.Reading.{Right, RightOf, refuses, found, run_by, checks, reading}
 use Rattle.cards.specs.declared.room.Room.{Room}
 use Rattle.cards.proofs.Finds.{Finds}
 use Rattle.cards.proofs.CheckFaults.{finds_faults}

@@ -1,10 +1,9 @@
 -- A table is in order in one way, so the truncation in a board's invariant comes off. Assumes nothing.
-use Rattle.std.proofs.Common.{◌≡◌, ℕ}
 use mathlib.Core.Logic.{∥∥₁_elim}
 use mathlib.Core.Bool.{Bool-set}
 use native.Mathlib.Nat.{ℕ_set}
 use native.Mathlib.Bridge.{le_prop}
-use Rattle.cards.specs.Table.{Table, Sound, InOrder}
+use Rattle.cards.specs.Table.{InOrder}
 use Rattle.cards.specs.Seen.{seen, tricks_left}
 use Rattle.cards.specs.declared.board.Board.{Board}
 

@@ -1,11 +1,11 @@
 -- The checks one after the other, by what each has found. Assumes nothing.
-use Rattle.std.proofs.Common.{◌≡◌, ℕ, ◌+◌, ◌≤◌, Bool, true, false, List, [], ◌∷◌, length, Some, None, Option, Ok, Err, Result, is_ok, sym, refl, ap, ◌∙◌, subst, arith}
+use Rattle.std.proofs.Common.{◌≡◌, ℕ, ◌+◌, ◌≤◌, true, List, [], ◌∷◌, length, Some, None, Option, Ok, Err, Result, is_ok, sym, refl, ap, ◌∙◌, arith}
 use Rattle.std.proofs.lemmas.Bool.{le-ltb, false≢true}
 use Rattle.std.specs.Result.{IsErrAnd}
 use Rattle.cards.specs.Numbers.{trump_number}
-use Rattle.cards.specs.Deal.{byte, start_of, or_else, fault, most_cards, lacks}
+use Rattle.cards.specs.Deal.{byte, start_of, or_else, most_cards, lacks}
 use Rattle.cards.specs.Faults.{bad_card, bad_share, bad_suit}
-use Rattle.cards.specs.Reading.{Outcome, refuses, refuse_at, run, reading}
+use Rattle.cards.specs.Reading.{Outcome, refuse_at, run, reading}
 use Rattle.cards.specs.declared.card.Suit.TheVariants.{Clubs, Diamonds, Hearts, Spades}
 use Rattle.cards.specs.declared.card.Trump.{Trump}
 use Rattle.cards.specs.declared.card.Trump.TheVariants.{Of, NoTrump}

@@ -1,5 +1,5 @@
 -- Where the cards of a deal stand, and which are among them. Assumes nothing.
-use Rattle.std.proofs.Common.{◌≡◌, ℕ, zero, suc, ◌+◌, ◌<◌, ◌≤◌, false, ◌||◌, eqb, ◌⊎◌, List, length, take, drop, Decides, sym, ap, ◌∙◌, subst, inl, inr, arith, drop-cons}
+use Rattle.std.proofs.Common.{◌≡◌, ℕ, zero, suc, ◌+◌, ◌<◌, ◌≤◌, ◌||◌, ◌⊎◌, List, length, take, drop, Decides, inl, inr, arith, drop-cons}
 use Rattle.std.proofs.lemmas.Bool.{cases_eq, cases_lt, false≢true}
 use Rattle.std.proofs.lemmas.List.{drop_all}
 use Rattle.std.proofs.lemmas.Bool.Decides.{Decides-at, Decides-like, Decides-or, Decides-eqb}
@@ -50,7 +50,7 @@ CardBefore bs k p = TrickCard bs p ⊎ ((q : ℕ) × (q < k) × HandCard bs q p)
 
 pub decides_before : (bs : List ℕ) (k x : ℕ) → Decides (has (before bs k) x) ((p : ℕ) × CardBefore bs k p × (byte bs p ≡ x))
 unfolding before
-decides_before bs zero x = Decides-like _ (λ h. (h.0, inl (among_trick bs h.0 h.1), h.2)) (λ h. grind (arith, trick_among bs)) (decides_part bs 3 (byte bs 2) x)
+decides_before bs zero x = Decides-like _ (λ h. (h.0, inl (among_trick bs h.0 h.1), h.2)) (λ h. (h.0, trick_among bs h.0 (elim h.1 [ inl t ↦ t | inr a ↦ absurd (omega arith) ]), h.2)) (decides_part bs 3 (byte bs 2) x)
 decides_before bs (suc k) x =
     Decides-at _ (has (before bs k) x || has (cards_of bs k) x) (has_append (before bs k) (cards_of bs k) x)
     (Decides-like _ (λ h. grind arith) (λ h. elim h.1 [ inl t ↦ inl (h.0, inl t, h.2) | inr c ↦ grind (arith, cases_eq c.0 k) ])

@@ -1,4 +1,4 @@
-use Rattle.std.proofs.Common.{rules, ◌≡◌, ℕ, Bool, true, false, List, Some, sym, refl, ap, ◌∙◌, ap₂, arith}
+use Rattle.std.proofs.Common.{rules, ◌≡◌, ℕ, Bool, true, List, Some, sym, refl, ap, ◌∙◌}
 use Rattle.cards.specs.Deal.{byte, start_of, first, fault, uneven, share}
 use Rattle.cards.proofs.DealLaws.{first_none, first_some}
 use Rattle.cards.proofs.reader.check_shares.Goals as goal

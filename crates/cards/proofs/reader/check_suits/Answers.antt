@@ -1,8 +1,8 @@
-use Rattle.std.proofs.Common.{rules, ◌≡◌, ℕ, ◌+◌, ◌%◌, ◌<◌, Bool, not, ◌&&◌, eqb, List, length, get_or, take, sym, refl, ap, ◌∙◌, ap₂, arith}
+use Rattle.std.proofs.Common.{rules, ◌≡◌, ℕ, ◌+◌, ◌%◌, ◌<◌, Bool, not, ◌&&◌, eqb, List, length, get_or, take, sym, refl, ap, ◌∙◌, arith}
 use Rattle.std.proofs.lemmas.List.{get_or-map, get_or-take}
 use Rattle.cards.specs.Table.{deck, suit, has_suit}
 use Rattle.cards.specs.Bits.{bit}
-use Rattle.cards.specs.Hands.{bits_of, held, numbers}
+use Rattle.cards.specs.Hands.{held, numbers}
 use Rattle.cards.specs.Deal.{first, fault, against}
 use Rattle.cards.specs.declared.card.Card.{Card}
 use Rattle.cards.specs.declared.hand.Hand.{Hand}

@@ -1,12 +1,9 @@
-use Rattle.std.proofs.Common.{◌≡◌, ℕ, List, [], ◌∷◌, None, is_ok, sym, ap, ◌∙◌, subst, arith}
+use Rattle.std.proofs.Common.{◌≡◌, ℕ, List, [], ◌∷◌, is_ok, sym, ap, ◌∙◌, arith}
 use Rattle.std.proofs.lemmas.Result.{err_from_is_err_and}
 use Rattle.cards.specs.Seen.{seen}
-use Rattle.cards.specs.Deal.{start_of, most_cards, lacks}
+use Rattle.cards.specs.Deal.{start_of, lacks}
 use Rattle.cards.specs.Faults.{bad_card, bad_share, bad_suit}
-use Rattle.cards.specs.Reading.{accepts, refuses, run, reading}
-use Rattle.cards.specs.Refusals.{number_of, place_of}
-use Rattle.cards.specs.Told.{told}
-use Rattle.cards.specs.declared.refusal.Refusal.{Refusal}
+use Rattle.cards.specs.Reading.{accepts, run, reading}
 use Rattle.cards.proofs.ReadLaws.{on_to_cards, none_short, trump_low}
 use Rattle.cards.proofs.reader.checked_deal.Goals as goal
 use Rattle.cards.proofs.reader.checked_deal.Goals.{In-Some-whole}

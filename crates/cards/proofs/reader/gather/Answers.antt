@@ -1,6 +1,5 @@
-use Rattle.std.proofs.Common.{rules, refl, ap, ◌∙◌, arith}
-use Rattle.cards.specs.Bits.{bit}
-use Rattle.cards.proofs.GatherLaws.{bad, going_none, going_more, going_bad, going_all}
+use Rattle.std.proofs.Common.{rules, arith}
+use Rattle.cards.proofs.GatherLaws.{going_none, going_more, going_bad, going_all}
 use Rattle.cards.proofs.reader.gather.Goals as goal
 
 pub loop-i-init : goal.loop-i-init

@@ -1,10 +1,10 @@
-use Rattle.std.proofs.Common.{rules, ◌≡◌, ℕ, ◌+◌, ◌≤◌, List, length, get_or, Some, None, sym, refl, ap, ◌∙◌, subst, arith}
+use Rattle.std.proofs.Common.{rules, ◌≡◌, Some, None, refl, arith}
 use Rattle.std.proofs.lemmas.List.{map-set}
 use Rattle.cards.specs.Bits.{bit}
 use Rattle.cards.specs.Hands.{bits_of}
 use Rattle.cards.specs.Deal.{first, first_bad, hand_fault}
 use Rattle.cards.specs.Refusals.{place_of}
-use Rattle.cards.specs.Parts.{Gathered, Dealt}
+use Rattle.cards.specs.Parts.{Gathered}
 use Rattle.cards.proofs.DealLaws.{part_length, cards_at, cards_there, first_none, first_some}
 use Rattle.cards.proofs.GatherLaws.{dealt_none, dealt_more, fault_at}
 use Rattle.cards.proofs.ReadLaws.{says_err}

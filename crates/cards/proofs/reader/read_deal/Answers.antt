@@ -1,5 +1,3 @@
-use Rattle.std.proofs.Common.{sym, subst}
-use Rattle.cards.specs.Reading.{Outcome, Right}
 use Rattle.cards.proofs.FirstRefusal.{reading_right}
 use Rattle.cards.proofs.reader.read_deal.Goals as goal
 

@@ -1,7 +1,5 @@
 use Rattle.std.proofs.Common.{rules, sym, refl}
-use Rattle.cards.specs.Table.{has_suit, deck}
-use Rattle.cards.specs.Bits.{bit}
-use Rattle.cards.specs.Numbers.{suit_number}
+use Rattle.cards.specs.Table.{has_suit}
 use Rattle.cards.proofs.SuitLaws.{none_more, some_at}
 use Rattle.cards.proofs.hand.Hand.has_suit.Goals as goal
 

@@ -1,6 +1,5 @@
 use Rattle.std.proofs.Common.{rules}
 use Rattle.std.proofs.lemmas.Nat.{ones-le}
-use Rattle.cards.specs.Table.{deck}
 use Rattle.cards.proofs.CountBits.{ones_count}
 use Rattle.cards.proofs.hand.Hand.len.Goals as goal
 

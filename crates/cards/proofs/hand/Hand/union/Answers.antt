@@ -1,6 +1,5 @@
 use Rattle.std.proofs.Common.{rules}
 use Rattle.std.proofs.lemmas.Nat.{or_lt}
-use Rattle.cards.specs.Table.{deck}
 use Rattle.cards.proofs.BitLaws.{bit-or}
 use Rattle.cards.proofs.hand.Hand.union.Goals as goal
 

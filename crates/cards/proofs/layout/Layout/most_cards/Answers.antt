@@ -1,5 +1,5 @@
-use Rattle.std.proofs.Common.{rules, max, sym, refl, ap, ◌∙◌, ap₂}
-use Rattle.cards.specs.Deal.{byte, number_byte, largest}
+use Rattle.std.proofs.Common.{rules, refl}
+use Rattle.cards.specs.Deal.{largest}
 use Rattle.cards.proofs.DealLaws.{largest_more}
 use Rattle.cards.proofs.layout.Layout.most_cards.Goals as goal
 
