@@ -23,11 +23,8 @@ pub bit_zero : (c : ℕ) → bit 0 c ≡ false
 bit_zero c = ap (λ (x : ℕ). eqb x 1) (bit_at-zero c)
 
 -- 1 << c at 64 bits is the set of card c alone
-bit_pow : (c d : ℕ) → bit (2 ^ c) d ≡ eqb d c
-bit_pow c d = grind (arith, nat_tests, bit_at-pow_same c, bit_at-pow_other c d)
-
 pub bit_single : (c d : ℕ) → c < deck → bit ((1 * 2 ^ c) % 18446744073709551616) d ≡ eqb d c
-bit_single c d l = rw (one_shl c 64 (omega arith)) (bit_pow c d)
+bit_single c d l = rw (one_shl c 64 (omega arith)) (grind (arith, nat_tests, bit_at-pow_same c, bit_at-pow_other c d))
 
 pub single_low : (c : ℕ) → c < deck → (1 * 2 ^ c) % 18446744073709551616 < 2 ^ deck
 single_low c l = rw (one_shl c 64 (omega arith)) (pow_below c deck l)

@@ -22,15 +22,6 @@ Holds bs Seen old = (x : ℕ) → Decides (old x) ((q : ℕ) × Seen q × (byte 
 holds_more : (bs : List ℕ) (Seen : ℕ → Type 0) (old : ℕ → Bool) (i : ℕ) → Holds bs Seen old → Holds bs (λ q. Seen q ⊎ (q ≡ i)) (λ x. old x || eqb x (byte bs i))
 holds_more bs Seen old i holds x = Decides-like _ (λ h. grind arith) (λ h. grind arith) (Decides-or _ _ (holds x) (Decides-eqb x (byte bs i)))
 
--- the first of some cards is bad, or one of those after it
-join_bad : (bs : List ℕ) (Seen : ℕ → Type 0) (i n : ℕ) → i < length bs → (p : ℕ) →
-    ((p ≡ i) × Bad bs Seen i i) ⊎ (Among bs (suc i) n p × Bad bs (λ q. Seen q ⊎ (q ≡ i)) (suc i) p) → Among bs i (suc n) p × Bad bs Seen i p
-join_bad bs Seen i n l p h = grind arith
-
-split_bad : (bs : List ℕ) (Seen : ℕ → Type 0) (i n p : ℕ) →
-    Among bs i (suc n) p × Bad bs Seen i p → ((p ≡ i) × Bad bs Seen i i) ⊎ (Among bs (suc i) n p × Bad bs (λ q. Seen q ⊎ (q ≡ i)) (suc i) p)
-split_bad bs Seen i n p h = grind (arith, cases_eq p i)
-
 decides_bad : (bs : List ℕ) (Seen : ℕ → Type 0) (old : ℕ → Bool) (i : ℕ) → Holds bs Seen old →
     Decides (not (ltb (byte bs i) deck) || old (byte bs i)) (Bad bs Seen i i)
 decides_bad bs Seen old i holds =
@@ -45,7 +36,7 @@ finds_bad bs Seen old i zero holds = finds_nothing (λ p h. omega arith)
 finds_bad bs Seen old i (suc n) holds = elim (cases_lt i (length bs)) [
   | inl l ↦
       rw (drop-cons bs i 0 l)
-      (finds_same (join_bad bs Seen i n l) (split_bad bs Seen i n)
+      (finds_same (λ p h. grind arith) (λ p h. grind (arith, cases_eq p i))
       (finds_pick _ i _ (λ p q h g. omega arith)
       (finds_fault _ i (decides_bad bs Seen old i holds)) (finds_bad bs (λ q. Seen q ⊎ (q ≡ i)) _ (suc i) n (holds_more bs Seen old i holds))))
   | inr l ↦ rw (drop_all i bs l) (finds_nothing (λ p h. omega arith))

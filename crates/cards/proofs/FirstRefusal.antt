@@ -92,8 +92,6 @@ module _ (bs : List ℕ) (F : Check → ℕ → Type 0) (find : Check → Option
         rw h.1 (refused_right k h.0 f)
   ]
 
-  checks_right : RightOf F bs (run_by find bs checks)
-  checks_right = run_right checks 0 (refl, (refl, (refl, (refl, (refl, (refl, (refl, refl))))))) (λ j q l. absurd (omega arith))
-
 pub reading_right : (n : ℕ) (bs : List ℕ) (room : Room) → Right n bs room (reading n bs room)
-reading_right n bs room = checks_right bs (Fault n bs room) (found n bs room) (finds_faults n bs room)
+reading_right n bs room =
+    run_right bs (Fault n bs room) (found n bs room) (finds_faults n bs room) checks 0 (refl, (refl, (refl, (refl, (refl, (refl, (refl, refl))))))) (λ j q l. absurd (omega arith))
