@@ -9,7 +9,7 @@ use Rattle.cards.specs.Faults.{TrickCard, HandCard, CardPlace, Fault, bad_card}
 use Rattle.cards.specs.declared.room.Room.{Room}
 use Rattle.cards.proofs.Finds.{Finds, finds_same, finds_nothing, finds_fault, finds_or, finds_pick, finds_first}
 use Rattle.cards.proofs.DealLaws.{start_next, start_mono}
-use Rattle.cards.proofs.Standing.{Among, CardBefore, trick_among, among_trick, among_hand, decides_before}
+use Rattle.cards.proofs.Standing.{Among, CardBefore, decides_before}
 
 -- the card at p is none, or the same as one that was seen, or as one from place i on before it
 abbrev Bad : List ℕ → (ℕ → Type 0) → ℕ → ℕ → Type 0
@@ -47,21 +47,22 @@ abbrev Wrong : List ℕ → ℕ → Type 0
 Wrong bs p = (deck ≤ byte bs p) ⊎ ((q : ℕ) × (q < p) × CardPlace bs q × (byte bs q ≡ byte bs p))
 
 finds_trick : (bs : List ℕ) → Finds (λ p. TrickCard bs p × Wrong bs p) (first_bad (has []) 3 (trick_of bs))
-unfolding has
+unfolding has start_of
 finds_trick bs =
-    finds_same (λ p h. grind (arith, among_trick bs)) (λ p h. grind (arith, trick_among bs, start_mono bs 0))
+    finds_same (λ p h. grind arith) (λ p h. grind (arith, start_mono bs 0))
     (finds_bad bs (λ q. ⊥) (λ x. false) 3 (byte bs 2) (λ x. (λ e. absurd (false≢true e), λ h. absurd h.1)))
 
 finds_hand : (bs : List ℕ) (k : ℕ) → k < 4 → Finds (λ p. HandCard bs k p × Wrong bs p) (hand_fault bs k)
+unfolding start_of
 finds_hand bs k l =
     finds_same
     (λ p h. (
-      among_hand bs k p h.0,
+      (omega arith, h.0.1, h.0.2),
       elim h.1 [
         | inl d ↦ inl d
         | inr a ↦ elim a.1 [
           | inl s ↦ inr (a.0, sooner a.0 p s h.0.0, placed a.0 s, a.2)
-          | inr s ↦ inr (a.0, s.1, inr (k, l, among_hand bs k a.0 (s.0, omega arith, omega arith)), a.2)
+          | inr s ↦ inr (a.0, s.1, inr (k, l, (omega arith, omega arith, omega arith)), a.2)
         ]
       ],
     ))
