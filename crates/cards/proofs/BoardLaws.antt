@@ -1,13 +1,13 @@
 -- The board that the reader makes of a deal stands for the table that the deal says. Assumes nothing.
-use Rattle.std.proofs.Common.{◌≡◌, ℕ, zero, suc, ◌+◌, ◌%◌, ◌<◌, ◌≤◌, Bool, false, not, ◌&&◌, eqb, ltb, List, [], length, get_or, take, drop, None, Option, sym, refl, ap, ◌∙◌, subst, ap₂, inl, inr, arith}
+use Rattle.std.proofs.Common.{◌≡◌, ℕ, zero, suc, ◌+◌, ◌%◌, ◌<◌, ◌≤◌, Bool, false, ◌&&◌, ltb, List, length, get_or, take, drop, None, Option, sym, refl, ap, ◌∙◌, ap₂, inl, inr, arith}
 use mathlib.Core.Path.{fun_ext}
 use Rattle.std.proofs.lemmas.List.{length-map, length-take-le, get_or-take, get_or_past, ext_get_or}
 use Rattle.std.proofs.lemmas.Bool.{lt-ltb, le-ltb, cases_lt}
-use Rattle.cards.specs.Table.{Table, one, deck, suit, has_suit, count, InOrder}
+use Rattle.cards.specs.Table.{one, deck, count, InOrder}
 use Rattle.cards.specs.Bits.{bit}
 use Rattle.cards.specs.Numbers.{trump_number}
 use Rattle.cards.specs.Hands.{bits_of, held, numbers, table_of, tricks_of, Kept}
-use Rattle.cards.specs.Deal.{byte, start_of, trick_of, cards_of, has, or_else, first, fault, first_bad, card_fault, share, share_fault, against, revokes, suit_fault, table_in}
+use Rattle.cards.specs.Deal.{byte, start_of, trick_of, cards_of, has, or_else, first, fault, first_bad, hand_fault, card_fault, share, share_fault, against, revokes, suit_fault, table_in}
 use Rattle.cards.specs.Parts.{Dealt}
 use Rattle.cards.specs.declared.card.Card.{Card}
 use Rattle.cards.specs.declared.card.Trump.{Trump}
@@ -16,12 +16,11 @@ use Rattle.cards.specs.declared.player.Player.{Player}
 use Rattle.cards.proofs.BitLaws.{bit_zero}
 use Rattle.cards.proofs.DealOrder.{trick_long, trick_at, trick_low, deal_in_order}
 
--- the check of the trick, by the cards and the set of no cards that the code begins with
-pub trick_check : (bs cs : List ℕ) (empty played : ℕ) (o : Option ℕ) → cs ≡ take played (drop 3 bs) → ((x : ℕ) → bit empty x ≡ false) → played ≡ byte bs 2 →
-    first_bad (bit empty) 3 cs ≡ o → first_bad (has []) 3 (trick_of bs) ≡ o
+-- the check of the cards, with that of the trick by the cards and the set of no cards that the code begins with
+pub cards_check : (bs cs : List ℕ) (empty played : ℕ) → cs ≡ take played (drop 3 bs) → ((x : ℕ) → bit empty x ≡ false) → played ≡ byte bs 2 →
+    card_fault bs ≡ or_else (first_bad (bit empty) 3 cs) (first (hand_fault bs) 4)
 unfolding has
-trick_check bs cs empty played o are none e h =
-    ap₂ (λ (s : ℕ → Bool) (n : ℕ). first_bad s 3 (take n (drop 3 bs))) (sym (fun_ext none)) (sym e) ∙ ap (first_bad (bit empty) 3) (sym are) ∙ h
+cards_check bs cs empty played are none e = rw (are, e) (ap (λ (s : ℕ → Bool). or_else (first_bad s 3 (trick_of bs)) (first (hand_fault bs) 4)) (sym (fun_ext none)))
 
 first_same : (f g : ℕ → Option ℕ) (n : ℕ) → ((i : ℕ) → i < n → f i ≡ g i) → first f n ≡ first g n
 unfolding first
@@ -61,10 +60,8 @@ module _ (bs : List ℕ) (trump : Trump) (hands : List Hand) (leader : Player) (
 
   hand_is : (p x : ℕ) → held hands p x ≡ (ltb p 4 && has (cards_of bs p) x)
   hand_is p x = elim (cases_lt p 4) [
-    | inl l ↦ read.dealt.1.each p l x ∙ sym (ap (λ (b : Bool). b && has (cards_of bs p) x) (lt-ltb p 4 l))
-    | inr l ↦
-        ap (λ (h : ℕ). bit h x) (get_or_past (bits_of hands) p 0 (omega (arith, read.dealt.1.four))) ∙ bit_zero x
-        ∙ sym (ap (λ (b : Bool). b && has (cards_of bs p) x) (le-ltb p 4 l))
+    | inl l ↦ rw (lt-ltb p 4 l) (read.dealt.1.each p l x)
+    | inr l ↦ rw (le-ltb p 4 l, get_or_past (bits_of hands) p 0 (omega (arith, read.dealt.1.four))) (bit_zero x)
   ]
 
   pub table_is : table_of trump hands leader trick played ≡ table_in bs
@@ -78,18 +75,16 @@ module _ (bs : List ℕ) (trump : Trump) (hands : List Hand) (leader : Player) (
       let p : ℕ = (byte bs 1 + i) % 4 in
       let own : has (cards_of bs p) ≡ held hands ((leader.seat + i) % 4) =
       fun_ext (λ x. sym (read.dealt.1.each p (omega arith) x)) ∙ ap (λ (s : ℕ). held hands ((s + i) % 4)) (sym read.leads) in
-      ap (λ (b : Bool). fault b (3 + i))
-      (ap₂ (λ (c d : ℕ). not (eqb (suit c) (suit d)) && has_suit (has (cards_of bs p)) (suit d) deck) (sym (lies i l)) (sym (lies 0 (omega arith)))
-      ∙ ap (λ (h : ℕ → Bool). not (eqb (suit (get_or (numbers trick) i 0)) (suit (get_or (numbers trick) 0 0))) && has_suit h (suit (get_or (numbers trick) 0 0)) deck) own))
+      rw (lies i l, lies 0 (omega arith), own) refl)
       ∙ ap (first (λ i. fault (against (numbers trick) (held hands) leader.seat i) (3 + i))) (sym read.many)
 
   pub kept : share_fault bs ≡ None → suit_fault bs ≡ None → Kept trump hands leader trick played
   kept shares suits =
       let o = deal_in_order bs read.cards three_at_most read.whole (bits_of hands) read.dealt.0 (omega (arith, read.leads, leader.low)) read.dealt.1 shares suits in
-      let t : InOrder (table_of trump hands leader trick played) (share bs (byte bs 1)) = subst (λ (u : Table). InOrder u (share bs (byte bs 1))) (sym table_is) o in
+      let t : InOrder (table_of trump hands leader trick played) (share bs (byte bs 1)) = rw table_is o in
       let h = t.sound.have 0 (omega arith) in
       let k : length (take played (numbers trick)) ≡ played = length-take-le played (numbers trick) (omega (arith, length-map trick (λ c. c.number), read.three, read.few)) in
       let seat : (leader.seat + 0) % 4 ≡ leader.seat = omega (arith, leader.low) in
       let n : tricks_of hands leader played ≡ share bs (byte bs 1) =
       ap₂ (λ (p m : ℕ). count (held hands p) deck + one (ltb 0 m)) (sym seat) (sym k) ∙ h in
-      ∣ subst (λ (m : ℕ). InOrder (table_of trump hands leader trick played) m) (sym n) t ∣₁
+      ∣ rw n t ∣₁

@@ -1,6 +1,6 @@
 -- The first card of a deal that is none or stands there twice. Assumes nothing.
-use Rattle.std.proofs.Common.{◌≡◌, ℕ, zero, suc, ◌+◌, ◌<◌, ◌≤◌, Bool, false, not, ◌||◌, eqb, ltb, ◌⊎◌, List, [], length, take, drop, Decides, sym, refl, ap, ◌∙◌, subst, inl, inr, arith, drop-cons}
-use Rattle.std.proofs.lemmas.Bool.{cases_eq, cases_lt, cases_order, false≢true}
+use Rattle.std.proofs.Common.{◌≡◌, ℕ, zero, suc, ◌+◌, ◌<◌, ◌≤◌, Bool, false, not, ◌||◌, eqb, ltb, ◌⊎◌, List, [], length, take, drop, Decides, inl, inr, arith, drop-cons}
+use Rattle.std.proofs.lemmas.Bool.{cases_eq, cases_lt, false≢true}
 use Rattle.std.proofs.lemmas.List.{drop_all}
 use Rattle.std.proofs.lemmas.Bool.Decides.{Decides-like, Decides-not, Decides-or, Decides-eqb, Decides-ltb}
 use Rattle.cards.specs.Table.{deck}
@@ -8,8 +8,8 @@ use Rattle.cards.specs.Deal.{byte, start_of, number_byte, trick_of, before, has,
 use Rattle.cards.specs.Faults.{TrickCard, HandCard, CardPlace, Fault, bad_card}
 use Rattle.cards.specs.declared.room.Room.{Room}
 use Rattle.cards.proofs.Finds.{Finds, finds_same, finds_nothing, finds_fault, finds_or, finds_pick, finds_first}
-use Rattle.cards.proofs.DealLaws.{start_mono}
-use Rattle.cards.proofs.Standing.{Among, CardBefore, trick_among, among_trick, hand_among, among_hand, decides_before}
+use Rattle.cards.proofs.DealLaws.{start_next, start_mono}
+use Rattle.cards.proofs.Standing.{Among, CardBefore, decides_before}
 
 -- the card at p is none, or the same as one that was seen, or as one from place i on before it
 abbrev Bad : List ℕ → (ℕ → Type 0) → ℕ → ℕ → Type 0
@@ -20,43 +20,7 @@ abbrev Holds : List ℕ → (ℕ → Type 0) → (ℕ → Bool) → Type 0
 Holds bs Seen old = (x : ℕ) → Decides (old x) ((q : ℕ) × Seen q × (byte bs q ≡ x))
 
 holds_more : (bs : List ℕ) (Seen : ℕ → Type 0) (old : ℕ → Bool) (i : ℕ) → Holds bs Seen old → Holds bs (λ q. Seen q ⊎ (q ≡ i)) (λ x. old x || eqb x (byte bs i))
-holds_more bs Seen old i holds x =
-    Decides-like _
-    (λ h. elim h [ inl a ↦ (a.0, inl a.1, a.2) | inr e ↦ (i, inr refl, sym e) ])
-    (λ h. elim h.1 [ inl s ↦ inl (h.0, s, h.2) | inr e ↦ inr (sym h.2 ∙ ap (byte bs) e) ])
-    (Decides-or _ _ (holds x) (Decides-eqb x (byte bs i)))
-
--- the first of some cards is bad, or one of those after it
-join_bad : (bs : List ℕ) (Seen : ℕ → Type 0) (i n : ℕ) → i < length bs → (p : ℕ) →
-    ((p ≡ i) × Bad bs Seen i i) ⊎ (Among bs (suc i) n p × Bad bs (λ q. Seen q ⊎ (q ≡ i)) (suc i) p) → Among bs i (suc n) p × Bad bs Seen i p
-join_bad bs Seen i n l p (inl h) = ((omega arith, omega arith, omega arith), subst (Bad bs Seen i) (sym h.0) h.1)
-join_bad bs Seen i n l p (inr h) = (
-  (omega arith, omega arith, omega arith),
-  elim h.1 [
-    | inl d ↦ inl d
-    | inr a ↦ inr (a.0, elim a.1 [ inl s ↦ elim s [ inl t ↦ inl t | inr e ↦ inr (omega arith, omega arith) ] | inr s ↦ inr (omega arith, s.1) ], a.2)
-  ],
-)
-
-split_bad : (bs : List ℕ) (Seen : ℕ → Type 0) (i n p : ℕ) →
-    Among bs i (suc n) p × Bad bs Seen i p → ((p ≡ i) × Bad bs Seen i i) ⊎ (Among bs (suc i) n p × Bad bs (λ q. Seen q ⊎ (q ≡ i)) (suc i) p)
-split_bad bs Seen i n p h = elim (cases_eq p i) [
-  | inl e ↦ inl (e, subst (Bad bs Seen i) e h.1)
-  | inr e ↦ inr (
-    (omega arith, omega arith, omega arith),
-    elim h.1 [
-      | inl d ↦ inl d
-      | inr a ↦ inr (
-        a.0,
-        elim a.1 [
-          | inl s ↦ inl (inl s)
-          | inr s ↦ elim (cases_eq a.0 i) [ inl r ↦ inl (inr r) | inr r ↦ inr (omega arith, s.1) ]
-        ],
-        a.2,
-      )
-    ],
-  )
-]
+holds_more bs Seen old i holds x = Decides-like _ (λ h. grind arith) (λ h. grind arith) (Decides-or _ _ (holds x) (Decides-eqb x (byte bs i)))
 
 decides_bad : (bs : List ℕ) (Seen : ℕ → Type 0) (old : ℕ → Bool) (i : ℕ) → Holds bs Seen old →
     Decides (not (ltb (byte bs i) deck) || old (byte bs i)) (Bad bs Seen i i)
@@ -71,11 +35,11 @@ unfolding first_bad
 finds_bad bs Seen old i zero holds = finds_nothing (λ p h. omega arith)
 finds_bad bs Seen old i (suc n) holds = elim (cases_lt i (length bs)) [
   | inl l ↦
-      subst (Finds _) (sym (ap (λ (cs : List ℕ). first_bad old i (take (suc n) cs)) (drop-cons bs i 0 l)))
-      (finds_same (join_bad bs Seen i n l) (split_bad bs Seen i n)
+      rw (drop-cons bs i 0 l)
+      (finds_same (λ p h. grind arith) (λ p h. grind (arith, cases_eq p i))
       (finds_pick _ i _ (λ p q h g. omega arith)
       (finds_fault _ i (decides_bad bs Seen old i holds)) (finds_bad bs (λ q. Seen q ⊎ (q ≡ i)) _ (suc i) n (holds_more bs Seen old i holds))))
-  | inr l ↦ subst (Finds _) (sym (ap (λ (cs : List ℕ). first_bad old i (take (suc n) cs)) (drop_all i bs l))) (finds_nothing (λ p h. omega arith))
+  | inr l ↦ rw (drop_all i bs l) (finds_nothing (λ p h. omega arith))
 ]
 
 -- the card at p is none, or stands at an earlier place too
@@ -83,58 +47,26 @@ abbrev Wrong : List ℕ → ℕ → Type 0
 Wrong bs p = (deck ≤ byte bs p) ⊎ ((q : ℕ) × (q < p) × CardPlace bs q × (byte bs q ≡ byte bs p))
 
 finds_trick : (bs : List ℕ) → Finds (λ p. TrickCard bs p × Wrong bs p) (first_bad (has []) 3 (trick_of bs))
-unfolding has
+unfolding has start_of
 finds_trick bs =
-    finds_same
-    (λ p h. (
-      among_trick bs p h.0,
-      elim h.1 [
-        | inl d ↦ inl d
-        | inr a ↦ elim a.1 [ inl s ↦ absurd s | inr s ↦ inr (a.0, s.1, inl (among_trick bs a.0 (s.0, omega arith, omega arith)), a.2) ]
-      ],
-    ))
-    (λ p h. (
-      trick_among bs p h.0,
-      elim h.1 [
-        | inl d ↦ inl d
-        | inr a ↦ inr (a.0, elim a.2 [ inl t ↦ inr (t.0, a.1) | inr c ↦ absurd (omega (arith, start_mono bs 0 c.0 (omega arith))) ], a.3)
-      ],
-    ))
+    finds_same (λ p h. grind arith) (λ p h. grind (arith, start_mono bs 0))
     (finds_bad bs (λ q. ⊥) (λ x. false) 3 (byte bs 2) (λ x. (λ e. absurd (false≢true e), λ h. absurd h.1)))
 
 finds_hand : (bs : List ℕ) (k : ℕ) → k < 4 → Finds (λ p. HandCard bs k p × Wrong bs p) (hand_fault bs k)
+unfolding start_of
 finds_hand bs k l =
     finds_same
     (λ p h. (
-      among_hand bs k p h.0,
+      (omega arith, h.0.1, h.0.2),
       elim h.1 [
         | inl d ↦ inl d
         | inr a ↦ elim a.1 [
           | inl s ↦ inr (a.0, sooner a.0 p s h.0.0, placed a.0 s, a.2)
-          | inr s ↦ inr (a.0, s.1, inr (k, l, among_hand bs k a.0 (s.0, omega arith, omega arith)), a.2)
+          | inr s ↦ inr (a.0, s.1, inr (k, l, (omega arith, omega arith, omega arith)), a.2)
         ]
       ],
     ))
-    (λ p h. (
-      hand_among bs k p h.0,
-      elim h.1 [
-        | inl d ↦ inl d
-        | inr a ↦ inr (
-          a.0,
-          elim a.2 [
-            | inl t ↦ inl (inl t)
-            | inr c ↦ elim (cases_order c.0 k) [
-              | inl e ↦ inr (subst (λ (j : ℕ). start_of bs j + 1 ≤ a.0) e (omega arith), a.1)
-              | inr o ↦ elim o [
-                | inl m ↦ inl (inr (c.0, m, c.2))
-                | inr m ↦ absurd (omega (arith, start_mono bs (suc k) c.0 (omega arith)))
-              ]
-            ]
-          ],
-          a.3,
-        )
-      ],
-    ))
+    (λ p h. grind (arith, start_next bs k, start_mono bs (suc k)))
     (finds_bad bs (CardBefore bs k) (has (before bs k)) (start_of bs k + 1) (number_byte bs k) (decides_before bs k))
   where
     sooner : (q p : ℕ) → CardBefore bs k q → start_of bs k + 1 ≤ p → q < p
@@ -148,8 +80,7 @@ finds_hand bs k l =
 pub finds_card : (n : ℕ) (bs : List ℕ) (room : Room) → Finds (Fault n bs room bad_card) (card_fault bs)
 finds_card n bs room =
     finds_same
-    (λ p h. elim h [ inl t ↦ (inl t.0, t.1) | inr c ↦ (inr (c.0, c.1, c.2.0), c.2.1) ])
-    (λ p h. elim h.0 [ inl t ↦ inl (t, h.1) | inr c ↦ inr (c.0, c.1, (c.2, h.1)) ])
+    (λ p h. grind arith) (λ p h. grind arith)
     (finds_or _ _ (λ p q t c. omega (arith, start_mono bs 0 c.0 (omega arith))) (finds_trick bs)
     (finds_first (λ k p. HandCard bs k p × Wrong bs p) (hand_fault bs) 4
     (λ j k p q l a b. omega (arith, start_mono bs (suc j) k (omega arith))) (finds_hand bs)))

@@ -1,6 +1,6 @@
 -- Each check of the reader finds the first place of its fault. Assumes nothing.
-use Rattle.std.proofs.Common.{◌≡◌, ℕ, zero, suc, ◌+◌, ◌*◌, ◌%◌, ◌<◌, ◌≤◌, Bool, ◌&&◌, eqb, ◌⊎◌, List, length, Decides, sym, refl, ap, ◌∙◌, subst, inl, inr, arith}
-use Rattle.std.proofs.lemmas.Bool.{cases_eq, cases_lt}
+use Rattle.std.proofs.Common.{◌≡◌, ℕ, zero, suc, ◌+◌, ◌*◌, ◌%◌, ◌<◌, ◌≤◌, Bool, ◌&&◌, eqb, ◌⊎◌, List, length, Decides, sym, refl, subst, inl, inr, arith}
+use Rattle.std.proofs.lemmas.Bool.{cases_lt}
 use Rattle.std.proofs.lemmas.List.{get_or_past}
 use Rattle.std.proofs.lemmas.Bool.Decides.{Decides-like, Decides-not, Decides-and, Decides-or, Decides-eqb, Decides-ltb, Decides-below_or}
 use Rattle.cards.specs.Table.{deck, suit, most_tricks, has_suit}
@@ -16,10 +16,7 @@ use Rattle.cards.proofs.CardFaults.{finds_card}
 largest_above : (f : ℕ → ℕ) (n q : ℕ) → q < n → f q ≤ largest f n
 unfolding largest
 largest_above f zero q l = absurd (omega arith)
-largest_above f (suc n) q l = elim (cases_eq q n) [
-  | inl e ↦ rw e (omega arith)
-  | inr e ↦ omega (arith, largest_above f n q (omega arith))
-]
+largest_above f (suc n) q l = grind (arith, largest_above f n q)
 
 -- a largest that is not 0 is one of them
 largest_at : (f : ℕ → ℕ) (n : ℕ) → 0 < largest f n → (q : ℕ) × (q < n) × (f q ≡ largest f n)
@@ -32,10 +29,7 @@ largest_at f (suc n) l = elim (cases_lt (largest f n) (f n)) [
 
 -- past the end stands 0, so a number that is not 0 is there
 number_there : (bs : List ℕ) (q : ℕ) → 0 < number_byte bs q → start_of bs q < length bs
-number_there bs q l = elim (cases_lt (start_of bs q) (length bs)) [
-  | inl m ↦ m
-  | inr m ↦ absurd (omega (arith, get_or_past bs (start_of bs q) 0 m))
-]
+number_there bs q l = grind (arith, get_or_past bs (start_of bs q) 0)
 
 -- what more cards only make worse is wrong for some number exactly if it is for the largest
 decides_number : (bs : List ℕ) (P : ℕ → Type 0) (b : Bool) → ((n : ℕ) → P n → 0 < n) → ((m n : ℕ) → m ≤ n → P m → P n) →
@@ -49,7 +43,7 @@ decides_number bs P b some more =
 
 finds_room : (n : ℕ) (bs : List ℕ) (room : Room) → Finds (Fault n bs room no_room) (found n bs room no_room)
 finds_room n bs room =
-    finds_or _ _ (λ p q a b. elim b [ inl h ↦ omega arith | inr h ↦ omega arith ])
+    finds_or _ _ (λ p q a b. grind arith)
     (finds_fault _ 0 (decides_number bs (λ m. room.cards < m) _ (λ m h. omega arith) (λ i j l h. omega arith) (Decides-ltb room.cards (most_cards bs))))
     (finds_or _ _ (λ p q a b. omega arith)
     (finds_fault _ 1 (decides_number bs (λ m. room.plays < 4 * m) _ (λ m h. omega arith) (λ i j l h. omega arith) (Decides-ltb room.plays (4 * most_cards bs))))
@@ -57,7 +51,7 @@ finds_room n bs room =
 
 finds_share : (n : ℕ) (bs : List ℕ) (room : Room) → Finds (Fault n bs room bad_share) (found n bs room bad_share)
 finds_share n bs room =
-    finds_same (λ p h. (h.0, h.1, h.2.0, h.2.1)) (λ p h. (h.0, h.1, (h.2, h.3)))
+    finds_same (λ p h. grind arith) (λ p h. grind arith)
     (finds_first Uneven _ 4
     (λ j k p q l a b. omega (arith, start_next bs j, start_mono bs (suc j) k (omega arith)))
     (λ k l. finds_fault _ (start_of bs k)
@@ -74,17 +68,13 @@ HasSuit bs k s = (r : ℕ) × HandCard bs k r × (byte bs r < deck) × (suit (by
 decides_suit : (bs : List ℕ) (k s : ℕ) → Decides (has_suit (has (cards_of bs k)) s deck) (HasSuit bs k s)
 unfolding has_suit
 decides_suit bs k s =
-    Decides-like _
-    (λ h. (h.2.0.0, h.2.0.1, subst (λ (c : ℕ). c < deck) (sym h.2.0.2) h.1, ap suit h.2.0.2 ∙ h.2.1))
-    (λ h. (byte bs h.0, h.2, ((h.0, h.1, refl), h.3)))
+    Decides-like _ (λ h. grind arith) (λ h. grind arith)
     (Decides-below_or (λ c. has (cards_of bs k) c && eqb (suit c) s) _ (has_suit (has (cards_of bs k)) s)
     (λ c. Decides-and _ _ (decides_cards bs k c) (Decides-eqb (suit c) s)) refl (λ _. refl) deck)
 
 finds_suit : (n : ℕ) (bs : List ℕ) (room : Room) → Finds (Fault n bs room bad_suit) (found n bs room bad_suit)
 finds_suit n bs room =
-    finds_same
-    (λ p h. (h.0, h.1, h.2.0, subst (λ (r : ℕ). suit (byte bs r) ≡ suit (byte bs 3) → ⊥) (sym h.2.0) h.2.1.0, h.2.1.1))
-    (λ p h. (h.0, h.1, (h.2, (subst (λ (r : ℕ). suit (byte bs r) ≡ suit (byte bs 3) → ⊥) h.2 h.3, h.4))))
+    finds_same (λ p h. grind arith) (λ p h. grind arith)
     (finds_first Revokes _ (byte bs 2) (λ j k p q l a b. omega arith)
     (λ i l. finds_fault (revokes bs i) (3 + i)
     (Decides-and _ _ (Decides-not _ (Decides-eqb (suit (byte bs (3 + i))) (suit (byte bs 3))))

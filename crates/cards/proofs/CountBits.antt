@@ -1,24 +1,15 @@
 -- The cards of a set are as many as the ones of its number. Assumes nothing.
-use Rattle.std.proofs.Common.{◌≡◌, ℕ, zero, suc, ◌+◌, ◌-◌, ◌*◌, ◌/◌, ◌%◌, ◌^◌, ◌<◌, eqb, sym, refl, ap, ◌∙◌, ap₂, arith}
+use Rattle.std.proofs.Common.{◌≡◌, ℕ, zero, suc, ◌+◌, ◌*◌, ◌/◌, ◌%◌, ◌^◌, ◌<◌, eqb, sym, refl, ap, ◌∙◌, ap₂, arith}
 use lib.Count.{ones, ones_cat}
-use Rattle.std.proofs.lemmas.Nat.{pow_pos, pow-add, mod_below, div_below, shr_split, field_of, mod-pow-add}
+use Rattle.std.proofs.lemmas.Nat.{pow_pos, pow-add, mod_below, div_below, shr_split}
+use Rattle.std.proofs.lemmas.Nat.Bits.{bit_at_cat_low}
 use Rattle.cards.specs.Table.{one, count}
 use Rattle.cards.specs.Bits.{bit}
 use Rattle.cards.proofs.CountLaws.{count_same}
 
--- the last digit stays where only high ones are left out
-last_stays : (m j : ℕ) → 0 < j → m % 2 ^ j % 2 ≡ m % 2
-last_stays m j l =
-    let e : (j - 1) + 1 ≡ j = omega arith in
-    let f : m % 2 ^ j ≡ (m / 2 ^ 1 % 2 ^ (j - 1)) * 2 ^ 1 + m % 2 ^ 1 = ap (λ (k : ℕ). m % 2 ^ k) (sym e) ∙ mod-pow-add m (j - 1) 1 in
-    omega arith
-
 -- the bits below n are those of the number's low part
 low_bits : (h n x : ℕ) → x < n → bit h x ≡ bit (h % 2 ^ n) x
-low_bits h n x l =
-    let e : (n - x) + x ≡ n = omega arith in
-    let f : h % 2 ^ n / 2 ^ x ≡ h / 2 ^ x % 2 ^ (n - x) = ap (λ (k : ℕ). h % 2 ^ k / 2 ^ x) (sym e) ∙ field_of h (n - x) x in
-    ap (λ (d : ℕ). eqb d 1) (sym (last_stays (h / 2 ^ x) (n - x) (omega arith)) ∙ ap (λ (d : ℕ). d % 2) (sym f))
+low_bits h n x l = ap (λ (m : ℕ). bit m x) (sym (shr_split h n)) ∙ ap (λ (d : ℕ). eqb d 1) (bit_at_cat_low (h / 2 ^ n) n (h % 2 ^ n) x l)
 
 one_digit : (d : ℕ) → d < 2 → ones d ≡ one (eqb (d % 2) 1)
 unfolding ones

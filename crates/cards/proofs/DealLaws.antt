@@ -1,8 +1,9 @@
 -- The places of a deal, and the first of several faults. Assumes nothing.
-use Rattle.std.proofs.Common.{◌≡◌, ℕ, zero, suc, ◌+◌, ◌<◌, ◌≤◌, max, Bool, ◌||◌, eqb, List, [], ◌∷◌, ◌++◌, length, get_or, take, drop, Some, None, Option, sym, refl, ap, ◌∙◌, subst, ap₂, inl, inr, add-one, arith}
+use Rattle.std.proofs.Common.{◌≡◌, ℕ, zero, suc, ◌+◌, ◌<◌, ◌≤◌, max, Bool, ◌||◌, eqb, List, [], ◌∷◌, ◌++◌, length, get_or, take, drop, Some, None, Option, sym, refl, ap, ◌∙◌, ap₂, inl, inr, add-one, arith}
 use mathlib.Core.Bool.{or_assoc}
 use Rattle.std.proofs.lemmas.Bool.{cases_eq}
 use Rattle.std.proofs.lemmas.List.{length-take-le, length-drop, get_or-take, get_or-drop}
+use Rattle.std.proofs.lemmas.Grind.{common_steps}
 use Rattle.cards.specs.Deal.{byte, start_of, number_byte, cards_of, has, or_else, first, largest}
 
 -- where a hand ends, the next begins
@@ -10,35 +11,25 @@ pub start_next : (bs : List ℕ) (p : ℕ) → start_of bs (suc p) ≡ (start_of
 unfolding start_of
 start_next bs p = refl
 
-pub start_more : (bs : List ℕ) (p : ℕ) → start_of bs (p + 1) ≡ (start_of bs p + 1) + number_byte bs p
-start_more bs p = ap (start_of bs) (add-one p) ∙ start_next bs p
-
 -- the places of the hands, one after the other
 pub first_place : (bs : List ℕ) (n : ℕ) → n ≡ byte bs 2 → 3 + n ≡ start_of bs 0
 unfolding start_of
 first_place bs n e = ap (λ (x : ℕ). 3 + x) e
 
 pub next_place : (bs : List ℕ) (p x y : ℕ) → x ≡ start_of bs p → y ≡ (x + 1) + byte bs x → y ≡ start_of bs (suc p)
-next_place bs p x y e f = f ∙ ap (λ (s : ℕ). (s + 1) + byte bs s) e ∙ sym (start_next bs p)
+next_place bs p x y e f = rw (start_next bs p, ← e) f
 
 pub four_places : (bs : List ℕ) (a b c d : ℕ) → a ≡ start_of bs 0 → b ≡ start_of bs 1 → c ≡ start_of bs 2 → d ≡ start_of bs 3 →
     (p : ℕ) → p < 4 → get_or (a ∷ b ∷ c ∷ d ∷ []) p 0 ≡ start_of bs p
-four_places bs a b c d e f g h zero l = e
-four_places bs a b c d e f g h (suc zero) l = f
-four_places bs a b c d e f g h (suc (suc zero)) l = g
-four_places bs a b c d e f g h (suc (suc (suc zero))) l = h
-four_places bs a b c d e f g h (suc (suc (suc (suc p)))) l = absurd (omega arith)
+four_places bs a b c d e f g h p l = grind (arith, common_steps)
 
 pub start_mono : (bs : List ℕ) (p q : ℕ) → p ≤ q → start_of bs p ≤ start_of bs q
-start_mono bs p zero l = let e : p ≡ 0 = omega arith in rw e (omega arith)
-start_mono bs p (suc q) l = elim (cases_eq p (suc q)) [
-  | inl e ↦ rw e (omega arith)
-  | inr e ↦ omega (arith, start_mono bs p q (omega arith), start_next bs q)
-]
+start_mono bs p zero l = grind arith
+start_mono bs p (suc q) l = grind (arith, start_mono bs p q, start_next bs q)
 
 -- the cards of a player of a whole deal are there
 pub within : (bs : List ℕ) (p : ℕ) → p < 4 → start_of bs 4 ≤ length bs → (start_of bs p + 1) + number_byte bs p ≤ length bs
-within bs p l w = omega (arith, start_mono bs (p + 1) 4 (omega arith), start_more bs p)
+within bs p l w = omega (arith, start_mono bs (suc p) 4 (omega arith), start_next bs p)
 
 pub largest_more : (f : ℕ → ℕ) (n : ℕ) → largest f (n + 1) ≡ max (largest f n) (f n)
 unfolding largest
@@ -60,20 +51,18 @@ pub first_some : (f : ℕ → Option ℕ) (n k x : ℕ) → k < n → first f k 
 unfolding first
 first_some f zero k x l p q = absurd (omega arith)
 first_some f (suc n) k x l p q = elim (cases_eq k n) [
-  | inl e ↦ ap₂ or_else (ap (first f) (sym e) ∙ p) (ap f (sym e) ∙ q)
-  | inr e ↦ ap (λ (o : Option ℕ). or_else o (f n)) (first_some f n k x (omega arith) p q)
+  | inl e ↦ rw (← e, p) q
+  | inr e ↦ rw (first_some f n k x (omega arith) p q) refl
 ]
 
 or_else_none : (a b : Option ℕ) → or_else a b ≡ None → (a ≡ None) × (b ≡ None)
 or_else_none None b e = (refl, e)
-or_else_none (Some x) b e = let z : ◌≡◌ {A = ℕ} 0 1 = cc in absurd (omega arith)
+or_else_none (Some x) b e = absurd (cc)
 
 pub first_clean : (f : ℕ → Option ℕ) (n k : ℕ) → first f n ≡ None → k < n → f k ≡ None
 unfolding first
 first_clean f zero k e l = absurd (omega arith)
-first_clean f (suc n) k e l =
-    let q = or_else_none (first f n) (f n) e in
-    elim (cases_eq k n) [ inl r ↦ ap f r ∙ q.1 | inr r ↦ first_clean f n k q.0 (omega arith) ]
+first_clean f (suc n) k e l = grind (arith, or_else_none (first f n) (f n), first_clean f n k)
 
 -- what is among the cards of two lists
 pub has_append : (xs ys : List ℕ) (x : ℕ) → has (xs ++ ys) x ≡ (has xs x || has ys x)
@@ -84,10 +73,8 @@ has_append (y ∷ xs) ys x = ap (λ (b : Bool). eqb x y || b) (has_append xs ys 
 -- what is said of the cards after a number byte is said of the hand that begins there
 pub cards_at : (bs : List ℕ) (p start number : ℕ) (cs : List ℕ) → start ≡ start_of bs p → number ≡ byte bs start → cs ≡ take number (drop (start + 1) bs) →
     (P : ℕ → List ℕ → Type 0) → P (start + 1) cs → P (start_of bs p + 1) (cards_of bs p)
-cards_at bs p start number cs e f g P h =
-    subst (λ (s : ℕ). P (s + 1) (take (byte bs s) (drop (s + 1) bs))) e
-    (subst (λ (n : ℕ). P (start + 1) (take n (drop (start + 1) bs))) f (subst (P (start + 1)) g h))
+cards_at bs p start number cs e f g P h = rw (← e, ← f, ← g) h
 
 -- the cards after a number byte of a whole deal are there
 pub cards_there : (bs : List ℕ) (p start : ℕ) → start ≡ start_of bs p → p < 4 → start_of bs 4 ≤ length bs → (start + 1) + byte bs start ≤ length bs
-cards_there bs p start e l w = subst (λ (x : ℕ). (x + 1) + byte bs x ≤ length bs) (sym e) (within bs p l w)
+cards_there bs p start e l w = rw e (within bs p l w)

@@ -1,8 +1,9 @@
 -- A deal that passes the checks says a table in order. Assumes nothing.
-use Rattle.std.proofs.Common.{◌≡◌, ℕ, suc, ◌+◌, ◌-◌, ◌%◌, ◌<◌, ◌≤◌, Bool, true, false, not, ◌&&◌, eqb, ltb, List, length, get_or, None, sym, refl, ap, ◌∙◌, subst, ap₂, inl, inr, arith}
+use Rattle.std.proofs.Common.{◌≡◌, ℕ, suc, ◌+◌, ◌-◌, ◌%◌, ◌<◌, ◌≤◌, Bool, true, false, ◌&&◌, ltb, List, length, get_or, None, sym, refl, ap, ◌∙◌, subst, ap₂, inl, inr, arith}
 use mathlib.Core.Path.{fun_ext}
 use Rattle.std.proofs.lemmas.List.{get_or_default}
-use Rattle.std.proofs.lemmas.Bool.{lt-ltb, ltb-true, ne_eqb, eqb-true, ltb-false, not-false, not_from_false, cases_lt, cases_order, cases_Bool, and_parts, and_cases, or_parts, both_ways}
+use Rattle.std.proofs.lemmas.Bool.{lt-ltb, ltb-true, and_parts, false_from_ne_true}
+use Rattle.std.proofs.lemmas.Bool.Decides.{nat_tests}
 use Rattle.cards.specs.Table.{one, deck, suit, has_suit, most_tricks, count, Sound, InOrder}
 use Rattle.cards.specs.Bits.{bit}
 use Rattle.cards.specs.Deal.{byte, start_of, number_byte, trick_of, cards_of, has, fault, card_fault, share, uneven, share_fault, revokes, suit_fault, table_in}
@@ -15,8 +16,11 @@ use Rattle.cards.proofs.Standing.{decides_cards}
 use Rattle.cards.proofs.CardFaults.{finds_card}
 
 no_fault : (b : Bool) (p : ℕ) → fault b p ≡ None → b ≡ false
-no_fault true p e = let z : ◌≡◌ {A = ℕ} 0 1 = cc in absurd (omega arith)
+no_fault true p e = absurd (cc)
 no_fault false p e = refl
+
+even_parts : (own each : ℕ) → uneven own each ≡ false → (own ≡ each) × (own ≤ most_tricks)
+even_parts own each e = (grind (arith, nat_tests), grind (arith, nat_tests))
 
 -- any room will do, where a check does not look at it
 some_room : Room
@@ -24,10 +28,7 @@ some_room = record { cards = 0; plays = 0; positions = 0; worths = 0 }
 
 module _ (bs : List ℕ) (cards : card_fault bs ≡ None) where
   good_card : (p : ℕ) → CardPlace bs p → byte bs p < deck
-  good_card p h = elim (cases_lt (byte bs p) deck) [
-    | inl l ↦ l
-    | inr l ↦ absurd ((finds_card 0 bs some_room).none cards p (h, inl l))
-  ]
+  good_card p h = grind (arith, (finds_card 0 bs some_room).none cards p)
 
   -- the same card does not stand in two places
   once_only : (q p : ℕ) → CardPlace bs q → CardPlace bs p → q < p → byte bs q ≡ byte bs p → ⊥
@@ -61,11 +62,7 @@ module _ (bs : List ℕ) (cards : card_fault bs ≡ None) where
 
     module _ (hands : List ℕ) (taken : ℕ) (lead : byte bs 1 ≤ 3) (dealt : Dealt bs 4 hands taken) (shares : share_fault bs ≡ None) (suits : suit_fault bs ≡ None) where
       even : (p : ℕ) → p < 4 → (share bs p ≡ share bs (byte bs 1)) × (share bs p ≤ most_tricks)
-      even p l =
-          let f = no_fault _ (start_of bs p) (first_clean (λ q. fault (uneven (share bs q) (share bs (byte bs 1))) (start_of bs q)) 4 p shares l) in
-          let a = or_parts (not (eqb (share bs p) (share bs (byte bs 1)))) _ f in
-          let b = or_parts (eqb (share bs p) 0) (ltb most_tricks (share bs p)) a.1 in
-          (eqb-true (share bs p) (share bs (byte bs 1)) (not-false _ a.0), ltb-false most_tricks (share bs p) b.1)
+      even p l = even_parts _ _ (no_fault _ (start_of bs p) (first_clean (λ q. fault (uneven (share bs q) (share bs (byte bs 1))) (start_of bs q)) 4 p shares l))
 
       many : (p : ℕ) → p < 4 → count ((table_in bs).hand p) deck ≡ number_byte bs p
       many p l =
@@ -76,24 +73,15 @@ module _ (bs : List ℕ) (cards : card_fault bs ≡ None) where
       sound = record {
         leads = omega arith;
         short = omega (arith, trick_long);
-        once = λ p q x lp lq a b. elim (cases_order p q) [
-          | inl e ↦ e
-          | inr o ↦ elim o [
-            | inl l ↦ absurd (hands_apart p q x l lq a b)
-            | inr l ↦ absurd (hands_apart q p x l lp b a)
-          ]
-        ];
+        once = λ p q x lp lq a b. grind (arith, hands_apart p q x, hands_apart q p x);
         cards = λ x p h.
             let l = ltb-true p 4 (and_parts (ltb p 4) (has (cards_of bs p) x) h).0 in
             let (r, hr, e) = hand_place p x l h in
             subst (λ (c : ℕ). c < deck) e (good_card r (inr (p, l, hr)));
-        played = λ i d l p lp. elim (cases_Bool ((table_in bs).hand p (get_or (trick_of bs) i d))) [
-          | inl h ↦
-              let k : i < byte bs 2 = omega (arith, trick_long) in
-              let (r, hr, e) = hand_place p (get_or (trick_of bs) i d) lp h in
-              absurd (once_only (3 + i) r (inl (trick_place i k)) (inr (p, lp, hr)) (omega (arith, hr.0, (trick_place i k).1, start_mono bs 0 p (omega arith))) (trick_at i k ∙ get_or_default (trick_of bs) i 0 d l ∙ sym e))
-          | inr h ↦ h
-        ];
+        played = λ i d l p lp. false_from_ne_true _ (λ h.
+            let k : i < byte bs 2 = omega (arith, trick_long) in
+            let (r, hr, e) = hand_place p (get_or (trick_of bs) i d) lp h in
+            once_only (3 + i) r (inl (trick_place i k)) (inr (p, lp, hr)) (omega (arith, hr.0, (trick_place i k).1, start_mono bs 0 p (omega arith))) (trick_at i k ∙ get_or_default (trick_of bs) i 0 d l ∙ sym e));
         have = λ i l.
             let p : ℕ = (byte bs 1 + i) % 4 in
             let seat : i ≡ ((p + 4) - byte bs 1) % 4 = omega arith in
@@ -111,12 +99,8 @@ module _ (bs : List ℕ) (cards : card_fault bs ≡ None) where
         suited = λ i l ne.
             let k : i < byte bs 2 = omega (arith, trick_long) in
             let f : revokes bs i ≡ false = no_fault _ (3 + i) (first_clean (λ j. fault (revokes bs j) (3 + j)) (byte bs 2) i suits k) in
-            let other : not (eqb (suit (byte bs (3 + i))) (suit (byte bs 3))) ≡ true =
-            not_from_false _ (ne_eqb _ _ (λ e. ne (ap suit (sym (trick_at i k)) ∙ e ∙ ap suit (trick_at 0 (omega arith))))) in
             let p : ℕ = (byte bs 1 + i) % 4 in
             let own : has (cards_of bs p) ≡ (table_in bs).hand p = fun_ext (λ x. sym (ap (λ (b : Bool). b && has (cards_of bs p) x) (lt-ltb p 4 (omega arith)))) in
-            elim (and_cases _ _ f) [
-              | inl z ↦ absurd (both_ways _ z other)
-              | inr z ↦ ap₂ (λ (h : ℕ → Bool) (c : ℕ). has_suit h (suit c) deck) (sym own) (sym (trick_at 0 (omega arith))) ∙ z
-            ];
+            let z : has_suit (has (cards_of bs p)) (suit (byte bs 3)) deck ≡ false = grind (arith, nat_tests, trick_at i k, trick_at 0 (omega arith)) in
+            ap₂ (λ (h : ℕ → Bool) (c : ℕ). has_suit h (suit c) deck) (sym own) (sym (trick_at 0 (omega arith))) ∙ z;
       }

@@ -1,5 +1,5 @@
 -- A search that finds the first place with a fault, or that there is none. Assumes nothing.
-use Rattle.std.proofs.Common.{◌≡◌, ℕ, zero, suc, ◌<◌, Bool, true, false, ◌⊎◌, Some, None, Decides, Option, refl, subst, inl, inr, arith}
+use Rattle.std.proofs.Common.{◌≡◌, ℕ, zero, suc, ◌<◌, Bool, true, false, ◌⊎◌, Some, None, Decides, Option, refl, inl, inr, arith}
 use Rattle.std.proofs.lemmas.Bool.{cases_eq, false≢true}
 use Rattle.cards.specs.Table.{pick}
 use Rattle.cards.specs.Deal.{fault, or_else, first}
@@ -19,7 +19,7 @@ finds_same to from f = record {
 
 pub finds_nothing : {P : ℕ → Type 0} → ((p : ℕ) → P p → ⊥) → Finds P None
 finds_nothing f = record {
-  here = λ p e. let z : ◌≡◌ {A = ℕ} 0 1 = cc in absurd (omega arith);
+  here = λ p e. absurd (cc);
   before = λ p e q l. f q;
   none = λ e. f;
 }
@@ -28,7 +28,7 @@ pub finds_fault : {Q : Type 0} (b : Bool) (x : ℕ) → Decides b Q → Finds (�
 finds_fault true x d = record {
   here = λ p e. (cc, d.0 refl);
   before = λ p e q l h. let s : p ≡ x = cc in omega arith;
-  none = λ e. let z : ◌≡◌ {A = ℕ} 0 1 = cc in absurd (omega arith);
+  none = λ e. absurd (cc);
 }
 finds_fault false x d = finds_nothing (λ p h. false≢true (d.1 h.1))
 
@@ -42,7 +42,7 @@ finds_or None b late f g = record {
 finds_or (Some x) b late f g = record {
   here = λ p e. inl (f.here p e);
   before = λ p e q l h. elim h [ inl y ↦ f.before p e q l y | inr y ↦ omega (arith, late p q (f.here p e) y) ];
-  none = λ e. let z : ◌≡◌ {A = ℕ} 0 1 = cc in absurd (omega arith);
+  none = λ e. absurd (cc);
 }
 
 pub finds_pick : {P Q : ℕ → Type 0} (b : Bool) (x : ℕ) (o : Option ℕ) → ((p q : ℕ) → P p → Q q → p < q) →
@@ -58,9 +58,6 @@ finds_first P f zero late each = finds_nothing (λ p h. omega arith)
 finds_first P f (suc n) late each =
     finds_same
     (λ p h. elim h [ inl x ↦ (x.0, omega arith, x.2) | inr x ↦ (n, omega arith, x) ])
-    (λ p h. elim (cases_eq h.0 n) [
-      | inl e ↦ inr (subst (λ (k : ℕ). P k p) e h.2)
-      | inr e ↦ inl (h.0, omega arith, h.2)
-    ])
+    (λ p h. grind (arith, cases_eq h.0 n))
     (finds_or (first f n) (f n) (λ p q x y. late x.0 n p q x.1 x.2 y)
     (finds_first P f n late (λ k l. each k (omega arith))) (each n (omega arith)))

@@ -2,7 +2,7 @@
 use Rattle.std.proofs.Common.{◌≡◌, ℕ, zero, suc, ◌<◌, ◌⊎◌, List, [], ◌∷◌, Some, None, Option, sym, refl, ap, ◌∙◌, subst, inl, inr, arith}
 use Rattle.std.proofs.lemmas.Bool.{cases_order, cases_eq}
 use Rattle.cards.specs.Faults.{Check, bad_trump, bad_lead, no_room, cut_short, bad_card, bad_share, bad_suit, order, number, Fault, FirstOf}
-use Rattle.cards.specs.Reading.{Right, RightOf, refuses, refuse_at, found, run_by, checks, reading}
+use Rattle.cards.specs.Reading.{Right, RightOf, refuses, found, run_by, checks, reading}
 use Rattle.cards.specs.declared.room.Room.{Room}
 use Rattle.cards.proofs.Finds.{Finds}
 use Rattle.cards.proofs.CheckFaults.{finds_faults}
@@ -56,7 +56,7 @@ module _ (bs : List ℕ) (F : Check → ℕ → Type 0) (find : Check → Option
 
   taken_right : Clean 7 → RightOf F bs (run_by find bs [])
   taken_right clean = record {
-    refused = λ n p e. let z : ◌≡◌ {A = ℕ} 0 1 = cc in absurd (omega arith);
+    refused = λ n p e. absurd (cc);
     refuses_first = λ k p f. absurd (clean k p (order_below k) f.here);
     taken = λ t size e k p. clean k p (order_below k);
     takes = λ f. refl;
@@ -64,25 +64,13 @@ module _ (bs : List ℕ) (F : Check → ℕ → Type 0) (find : Check → Option
 
   -- a first refusal is the only one
   first_once : (j k : Check) (p q : ℕ) → FirstOf F j p → FirstOf F k q → refuses (number j) p ≡ refuses (number k) q
-  first_once j k p q f g = elim (cases_order (order j) (order k)) [
-    | inl e ↦ elim (cases_order p q) [
-      | inl s ↦ let same : j ≡ k = same_from_order j k e in cc
-      | inr o ↦ elim o [
-        | inl l ↦ absurd (g.before p l (subst (λ (i : Check). F i p) (same_from_order j k e) f.here))
-        | inr l ↦ absurd (f.before q l (subst (λ (i : Check). F i q) (sym (same_from_order j k e)) g.here))
-      ]
-    ]
-    | inr o ↦ elim o [
-      | inl l ↦ absurd (g.earlier j p l f.here)
-      | inr l ↦ absurd (f.earlier k q l g.here)
-    ]
-  ]
+  first_once j k p q f g = grind (arith, cases_order (order j) (order k), cases_order p q, same_from_order j k)
 
   refused_right : (k : Check) (p : ℕ) → FirstOf F k p → RightOf F bs (refuses (number k) p)
   refused_right k p f = record {
     refused = λ n q e. (k, cc, subst (λ (x : ℕ). FirstOf F k x) (let s : p ≡ q = cc in s) f);
     refuses_first = λ j q g. first_once k j p q f g;
-    taken = λ t size e. let z : ◌≡◌ {A = ℕ} 0 1 = cc in absurd (omega arith);
+    taken = λ t size e. absurd (cc);
     takes = λ clean. absurd (clean k p f.here);
   }
 
@@ -94,18 +82,16 @@ module _ (bs : List ℕ) (F : Check → ℕ → Type 0) (find : Check → Option
           | inl s ↦ (finds k).none e q (subst (λ (i : Check). F i q) (same_from_order j k (s ∙ sym row.0)) h)
           | inr s ↦ clean j q (omega arith) h
         ] in
-        subst (λ (o : Option ℕ). RightOf F bs (refuse_at o (number k) (run_by find bs ks))) (sym e) (run_right ks (suc m) row.1 more)
+        rw e (run_right ks (suc m) row.1 more)
     | inr h ↦
         let f : FirstOf F k h.0 = record {
           here = (finds k).here h.0 h.1;
           before = (finds k).before h.0 h.1;
           earlier = λ j q l. clean j q (omega arith);
         } in
-        subst (λ (o : Option ℕ). RightOf F bs (refuse_at o (number k) (run_by find bs ks))) (sym h.1) (refused_right k h.0 f)
+        rw h.1 (refused_right k h.0 f)
   ]
 
-  checks_right : RightOf F bs (run_by find bs checks)
-  checks_right = run_right checks 0 (refl, (refl, (refl, (refl, (refl, (refl, (refl, refl))))))) (λ j q l. absurd (omega arith))
-
 pub reading_right : (n : ℕ) (bs : List ℕ) (room : Room) → Right n bs room (reading n bs room)
-reading_right n bs room = checks_right bs (Fault n bs room) (found n bs room) (finds_faults n bs room)
+reading_right n bs room =
+    run_right bs (Fault n bs room) (found n bs room) (finds_faults n bs room) checks 0 (refl, (refl, (refl, (refl, (refl, (refl, (refl, refl))))))) (λ j q l. absurd (omega arith))

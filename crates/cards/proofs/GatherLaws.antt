@@ -1,9 +1,10 @@
 -- A hand read card by card, and the hands one after the other. Assumes nothing.
-use Rattle.std.proofs.Common.{◌≡◌, ℕ, suc, ◌+◌, ◌<◌, ◌≤◌, Bool, true, false, not, ◌||◌, eqb, ltb, ◌≢◌, List, [], ◌∷◌, ◌++◌, length, get_or, take, drop, set, Some, None, Option, sym, ap, ◌∙◌, ap₂, add-zero, add-one, arith, length-set, get_or-set_other, get_or-set_same, below_more}
+use Rattle.std.proofs.Common.{◌≡◌, ℕ, suc, ◌+◌, ◌<◌, ◌≤◌, Bool, true, false, not, ◌||◌, eqb, ltb, ◌≢◌, List, [], ◌∷◌, ◌++◌, length, get_or, take, drop, set, Some, None, Option, sym, refl, ap, ◌∙◌, ap₂, add-zero, add-one, arith, length-set, get_or-set_other, get_or-set_same, below_more}
 use mathlib.Core.Path.{fun_ext}
 use mathlib.Core.Bool.{or_assoc}
-use Rattle.std.proofs.lemmas.Bool.{ltb-true, not-false, or_parts}
+use Rattle.std.proofs.lemmas.Bool.Decides.{nat_tests}
 use Rattle.std.proofs.lemmas.List.{at_drop_more, drop_all, take_more, take_all}
+use Rattle.std.proofs.lemmas.List.Recursion.{or_push}
 use Rattle.cards.specs.Table.{pick, deck, count}
 use Rattle.cards.specs.Bits.{bit}
 use Rattle.cards.specs.Deal.{start_of, number_byte, trick_of, cards_of, before, has, first_bad, hand_fault}
@@ -13,7 +14,7 @@ use Rattle.cards.proofs.DealLaws.{within, part_length, has_append}
 
 pub has_push : (xs : List ℕ) (c x : ℕ) → has (xs ++ (c ∷ [])) x ≡ (has xs x || eqb x c)
 unfolding has
-has_push xs c x = has_append xs (c ∷ []) x ∙ ap (λ (b : Bool). has xs x || b) (or_false (eqb x c))
+has_push xs c x = or_push (λ cs. has cs x) (λ d. eqb x d) refl (λ _ _. refl) xs c
 
 -- a row of cards, after those of the set old, with the first i read into a set
 abbrev pub both : (ℕ → Bool) → (ℕ → Bool) → ℕ → Bool
@@ -43,25 +44,25 @@ going_none old place cs hand e = record {
   many = count_none (bit hand) deck e;
 }
 
-pub going_more : (old : ℕ → Bool) (place : ℕ) (cs : List ℕ) (hand more i c : ℕ) → Going old place cs hand i → i < length cs → c ≡ get_or cs i 0 → bad old hand c ≡ false →
+pub going_more : (old : ℕ → Bool) (place : ℕ) (cs : List ℕ) (hand more i c : ℕ) → Going old place cs hand i → i < length cs → c ≡ get_or cs i 0 → bad old hand (get_or cs i 0) ≡ false →
     ((x : ℕ) → bit more x ≡ (bit hand x || eqb x c)) → Going old place cs more (i + 1)
 going_more old place cs hand more i c g l e fine add = record {
   rest =
       ap₂ (λ (s : ℕ → Bool) (p : ℕ). first_bad s p (drop (i + 1) cs)) (fun_ext (λ x. ap (λ (b : Bool). old x || b) (add x) ∙ sym (or_assoc (old x) (bit hand x) (eqb x c)))) (let q : place + (i + 1) ≡ suc (place + i) = omega arith in q)
       ∙ ap (λ (d : ℕ). first_bad (λ x. both old (bit hand) x || eqb x d) (suc (place + i)) (drop (i + 1) cs)) e
-      ∙ sym (step (both old (bit hand)) (place + i) i cs false l (ap (bad old hand) (sym e) ∙ fine)) ∙ g.rest;
+      ∙ sym (step (both old (bit hand)) (place + i) i cs false l fine) ∙ g.rest;
   holds = λ x. add x ∙ ap₂ (λ (b : Bool) (d : ℕ). b || eqb x d) (g.holds x) e ∙ sym (has_push (take i cs) (get_or cs i 0) x) ∙ ap (λ (ys : List ℕ). has ys x) (sym (take_more cs i 0 l));
   many = count_same (bit more) (λ x. bit hand x || eqb x c) deck (λ x _. add x) ∙ count_in (bit hand) c deck low fresh ∙ ap (λ (n : ℕ). n + 1) g.many;
 }
   where
     low : c < deck
-    low = ltb-true c deck (not-false (ltb c deck) (or_parts (not (ltb c deck)) (both old (bit hand) c) fine).0)
+    low = grind (arith, nat_tests)
 
     fresh : bit hand c ≡ false
-    fresh = (or_parts (old c) (bit hand c) (or_parts (not (ltb c deck)) (both old (bit hand) c) fine).1).1
+    fresh = grind (arith, nat_tests)
 
-pub going_bad : (old : ℕ → Bool) (place : ℕ) (cs : List ℕ) (hand i c : ℕ) → Going old place cs hand i → i < length cs → c ≡ get_or cs i 0 → bad old hand c ≡ true → first_bad old place cs ≡ Some (place + i)
-going_bad old place cs hand i c g l e b = sym g.rest ∙ step (both old (bit hand)) (place + i) i cs true l (ap (bad old hand) (sym e) ∙ b)
+pub going_bad : (old : ℕ → Bool) (place : ℕ) (cs : List ℕ) (hand i : ℕ) → Going old place cs hand i → i < length cs → bad old hand (get_or cs i 0) ≡ true → first_bad old place cs ≡ Some (place + i)
+going_bad old place cs hand i g l b = sym g.rest ∙ step (both old (bit hand)) (place + i) i cs true l b
 
 pub going_all : (old : ℕ → Bool) (place : ℕ) (cs : List ℕ) (hand i : ℕ) → Going old place cs hand i → length cs ≡ i → (first_bad old place cs ≡ None) × Gathered cs hand
 unfolding first_bad
@@ -94,11 +95,9 @@ unfolding before
 dealt_more bs hands taken hand more n d l w g add = record {
   four = length-set hands n hand ∙ d.four;
   all = λ x. rw add-one (add x ∙ ap₂ (λ (a b : Bool). a || b) (d.all x) (g.holds x) ∙ sym (has_append (before bs n) (cards_of bs n) x));
-  each = below_more (λ p. (x : ℕ) → bit (get_or (set hands n hand) p 0) x ≡ has (cards_of bs p) x) n
-      (λ p k x. ap (λ (h : ℕ). bit h x) (other p k) ∙ d.each p k x) (λ x. ap (λ (h : ℕ). bit h x) own ∙ g.holds x);
-  many = below_more (λ p. count (bit (get_or (set hands n hand) p 0)) deck ≡ number_byte bs p) n
-      (λ p k. ap (λ (h : ℕ). count (bit h) deck) (other p k) ∙ d.many p k)
-      (ap (λ (h : ℕ). count (bit h) deck) own ∙ g.many ∙ part_length bs (start_of bs n + 1) (number_byte bs n) (within bs n l w));
+  each = below_more (λ p. (x : ℕ) → bit (get_or (set hands n hand) p 0) x ≡ has (cards_of bs p) x) n (λ p k x. rw (other p k) (d.each p k x)) (λ x. rw own (g.holds x));
+  many = below_more (λ p. count (bit (get_or (set hands n hand) p 0)) deck ≡ number_byte bs p) n (λ p k. rw (other p k) (d.many p k))
+      (rw own (g.many ∙ part_length bs (start_of bs n + 1) (number_byte bs n) (within bs n l w)));
 }
   where
     own : get_or (set hands n hand) n 0 ≡ hand

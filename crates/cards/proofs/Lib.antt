@@ -13,4 +13,3 @@ mod FirstRefusal
 mod DealOrder
 mod BoardLaws
 mod ReadLaws
-pub mod FewLaws

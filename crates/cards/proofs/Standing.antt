@@ -1,5 +1,5 @@
 -- Where the cards of a deal stand, and which are among them. Assumes nothing.
-use Rattle.std.proofs.Common.{◌≡◌, ℕ, zero, suc, ◌+◌, ◌<◌, ◌≤◌, false, ◌||◌, eqb, ◌⊎◌, List, length, take, drop, Decides, sym, ap, ◌∙◌, subst, inl, inr, arith, drop-cons}
+use Rattle.std.proofs.Common.{◌≡◌, ℕ, zero, suc, ◌+◌, ◌<◌, ◌≤◌, ◌||◌, ◌⊎◌, List, length, take, drop, Decides, inl, inr, arith, drop-cons}
 use Rattle.std.proofs.lemmas.Bool.{cases_eq, cases_lt, false≢true}
 use Rattle.std.proofs.lemmas.List.{drop_all}
 use Rattle.std.proofs.lemmas.Bool.Decides.{Decides-at, Decides-like, Decides-or, Decides-eqb}
@@ -11,46 +11,22 @@ use Rattle.cards.proofs.DealLaws.{has_append}
 abbrev pub Among : List ℕ → ℕ → ℕ → ℕ → Type 0
 Among bs i n p = (i ≤ p) × (p < i + n) × (p < length bs)
 
-pub trick_among : (bs : List ℕ) (p : ℕ) → TrickCard bs p → Among bs 3 (byte bs 2) p
-unfolding start_of
-trick_among bs p h = h
-
-pub among_trick : (bs : List ℕ) (p : ℕ) → Among bs 3 (byte bs 2) p → TrickCard bs p
-unfolding start_of
-among_trick bs p h = h
-
-pub hand_among : (bs : List ℕ) (k p : ℕ) → HandCard bs k p → Among bs (start_of bs k + 1) (number_byte bs k) p
-unfolding start_of
-hand_among bs k p h = (omega arith, h.1, h.2)
-
-pub among_hand : (bs : List ℕ) (k p : ℕ) → Among bs (start_of bs k + 1) (number_byte bs k) p → HandCard bs k p
-unfolding start_of
-among_hand bs k p h = (omega arith, h.1, h.2)
-
 -- is x among the bytes of some places
 decides_part : (bs : List ℕ) (i n x : ℕ) → Decides (has (take n (drop i bs)) x) ((p : ℕ) × Among bs i n p × (byte bs p ≡ x))
 unfolding has
 decides_part bs i zero x = (λ e. absurd (false≢true e), λ h. absurd (omega arith))
 decides_part bs i (suc n) x = elim (cases_lt i (length bs)) [
   | inl l ↦
-      Decides-at _ (eqb x (byte bs i) || has (take n (drop (suc i) bs)) x) (ap (λ (cs : List ℕ). has (take (suc n) cs) x) (drop-cons bs i 0 l))
-      (Decides-like _
-      (λ h. elim h [
-        | inl e ↦ (i, (omega arith, omega arith, l), sym e)
-        | inr a ↦ (a.0, (omega arith, omega arith, a.1.2), a.2)
-      ])
-      (λ a. elim (cases_eq a.0 i) [
-        | inl e ↦ inl (sym a.2 ∙ ap (byte bs) e)
-        | inr e ↦ inr (a.0, (omega arith, omega arith, a.1.2), a.2)
-      ])
-      (Decides-or _ _ (Decides-eqb x (byte bs i)) (decides_part bs (suc i) n x)))
+      rw (drop-cons bs i 0 l)
+      (Decides-like _ (λ h. grind arith) (λ a. grind (arith, cases_eq a.0 i)) (Decides-or _ _ (Decides-eqb x (byte bs i)) (decides_part bs (suc i) n x)))
   | inr l ↦
-      Decides-at _ false (ap (λ (cs : List ℕ). has (take (suc n) cs) x) (drop_all i bs l)) (λ e. absurd (false≢true e), λ h. absurd (omega arith))
+      rw (drop_all i bs l) (λ e. absurd (false≢true e), λ h. absurd (omega arith))
 ]
 
 pub decides_cards : (bs : List ℕ) (k x : ℕ) → Decides (has (cards_of bs k) x) ((p : ℕ) × HandCard bs k p × (byte bs p ≡ x))
+unfolding start_of
 decides_cards bs k x =
-    Decides-like _ (λ h. (h.0, among_hand bs k h.0 h.1, h.2)) (λ h. (h.0, hand_among bs k h.0 h.1, h.2))
+    Decides-like _ (λ h. (h.0, (omega arith, h.1.1, h.1.2), h.2)) (λ h. (h.0, (omega arith, h.1.1, h.1.2), h.2))
     (decides_part bs (start_of bs k + 1) (number_byte bs k) x)
 
 -- a card of the trick, or of a player below k, stands at p
@@ -58,24 +34,9 @@ abbrev pub CardBefore : List ℕ → ℕ → ℕ → Type 0
 CardBefore bs k p = TrickCard bs p ⊎ ((q : ℕ) × (q < k) × HandCard bs q p)
 
 pub decides_before : (bs : List ℕ) (k x : ℕ) → Decides (has (before bs k) x) ((p : ℕ) × CardBefore bs k p × (byte bs p ≡ x))
-unfolding before
-decides_before bs zero x =
-    Decides-like _
-    (λ h. (h.0, inl (among_trick bs h.0 h.1), h.2))
-    (λ h. (h.0, trick_among bs h.0 (elim h.1 [ inl t ↦ t | inr a ↦ absurd (omega arith) ]), h.2))
-    (decides_part bs 3 (byte bs 2) x)
+unfolding before start_of
+decides_before bs zero x = Decides-like _ (λ h. (h.0, inl h.1, h.2)) (λ h. (h.0, elim h.1 [ inl t ↦ t | inr a ↦ absurd (omega arith) ], h.2)) (decides_part bs 3 (byte bs 2) x)
 decides_before bs (suc k) x =
     Decides-at _ (has (before bs k) x || has (cards_of bs k) x) (has_append (before bs k) (cards_of bs k) x)
-    (Decides-like _
-    (λ h. elim h [
-      | inl a ↦ (a.0, elim a.1 [ inl t ↦ inl t | inr c ↦ inr (c.0, omega arith, c.2) ], a.2)
-      | inr a ↦ (a.0, inr (k, omega arith, a.1), a.2)
-    ])
-    (λ h. elim h.1 [
-      | inl t ↦ inl (h.0, inl t, h.2)
-      | inr c ↦ elim (cases_eq c.0 k) [
-        | inl e ↦ inr (h.0, subst (λ (j : ℕ). HandCard bs j h.0) e c.2, h.2)
-        | inr e ↦ inl (h.0, inr (c.0, omega arith, c.2), h.2)
-      ]
-    ])
+    (Decides-like _ (λ h. grind arith) (λ h. elim h.1 [ inl t ↦ inl (h.0, inl t, h.2) | inr c ↦ grind (arith, cases_eq c.0 k) ])
     (Decides-or _ _ (decides_before bs k x) (decides_cards bs k x)))

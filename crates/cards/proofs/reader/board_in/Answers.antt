@@ -1,44 +1,33 @@
-use Rattle.std.proofs.Common.{◌≡◌, None, sym, ap, ◌∙◌, arith}
-use Rattle.std.proofs.lemmas.Result.{err_from_is_err_and}
+use Rattle.std.proofs.Common.{rules, ◌≡◌, None, sym, ap, ◌∙◌, arith}
 use Rattle.cards.specs.Table.{Table}
 use Rattle.cards.specs.Deal.{start_of, first, hand_fault, card_fault}
 use Rattle.cards.specs.Reading.{accepts}
 use Rattle.cards.proofs.DealLaws.{start_mono}
-use Rattle.cards.proofs.BoardLaws.{trick_check, Read, hands_four, table_is, suits_same, kept}
+use Rattle.cards.proofs.BoardLaws.{cards_check, Read, hands_four, table_is, suits_same, kept}
 use Rattle.cards.proofs.ReadLaws.{passes, board_refused, or_else_first, or_else_second}
 use Rattle.cards.proofs.reader.board_in.Goals as goal
 use Rattle.cards.proofs.reader.board_in.Goals.{In_ok-hands, After-trick_in-trick}
 
 pub part-requires : goal.part-requires
 unfolding start_of
-part-requires c = omega (arith, start_mono c.args.layout.now.bytes.now 0 4 (omega arith), c.requires.whole, c.requires.played)
+part-requires c = search (rules, start_mono)
 
 pub returns-in_err-lying : goal.returns-in_err-lying
 returns-in_err-lying c follow room =
-    let bs = c.args.layout.now.bytes.now in
-    let e = err_from_is_err_and c.from_residual.result c.from_residual.ensures.1 in
-    board_refused _ 4 _ _ _ _ _ e.1 e.2 c.in_err-lying.ensures.0
-    (or_else_first _ (first (hand_fault bs) 4) _ (trick_check bs _ c.empty.result.bits c.args.played _ c.part.ensures c.empty.ensures c.requires.played c.in_err-lying.ensures.1))
+    board_refused _ 4 _ _ (card_fault c.args.layout.now.bytes.now) _ c.from_residual.ensures.1 c.in_err-lying.ensures.0
+    (cards_check _ _ _ _ c.part.ensures c.empty.ensures c.requires.played ∙ or_else_first _ (first (hand_fault c.args.layout.now.bytes.now) 4) _ c.in_err-lying.ensures.1)
 
 pub returns-in_err-hands : goal.returns-in_err-hands
 returns-in_err-hands c follow room =
-    let bs = c.args.layout.now.bytes.now in
-    let e = err_from_is_err_and c.from_residual-in_err-hands.result c.from_residual-in_err-hands.ensures.1 in
-    let clean = trick_check bs _ c.empty.result.bits c.args.played None c.part.ensures c.empty.ensures c.requires.played c.in_ok-lying.ensures.0 in
-    board_refused _ 4 _ _ _ _ _ e.1 e.2 c.in_err-hands.ensures.0 (or_else_second _ (first (hand_fault bs) 4) _ clean c.in_err-hands.ensures.1)
+    board_refused _ 4 _ _ _ _ c.from_residual-in_err-hands.ensures.1 c.in_err-hands.ensures.0
+    (cards_check _ _ _ _ c.part.ensures c.empty.ensures c.requires.played ∙ or_else_second _ _ _ c.in_ok-lying.ensures.0 c.in_err-hands.ensures.1)
 
 -- cards that were gathered have no fault
 cards_clean : (c : In_ok-hands) → card_fault c.args.layout.now.bytes.now ≡ None
-cards_clean c =
-    let bs = c.args.layout.now.bytes.now in
-    let clean = trick_check bs _ c.empty.result.bits c.args.played None c.part.ensures c.empty.ensures c.requires.played c.in_ok-lying.ensures.0 in
-    or_else_second _ (first (hand_fault bs) 4) _ clean c.in_ok-hands.ensures.0
+cards_clean c = cards_check _ _ _ _ c.part.ensures c.empty.ensures c.requires.played ∙ or_else_second _ _ _ c.in_ok-lying.ensures.0 c.in_ok-hands.ensures.0
 
 pub returns-in_err-check_shares : goal.returns-in_err-check_shares
-returns-in_err-check_shares c follow room =
-    let e = err_from_is_err_and c.from_residual-in_err-check_shares.result c.from_residual-in_err-check_shares.ensures.1 in
-    board_refused _ 5 _ _ _ _ _ e.1 e.2 c.in_err-check_shares.ensures.0 c.in_err-check_shares.ensures.1
-    ∙ sym (passes _ 4 _ (cards_clean (goal.at.returns-in_err-check_shares c).In_ok-hands))
+returns-in_err-check_shares c follow room = search (rules, board_refused, passes, cards_clean)
 
 -- what was read, before the check of the suits
 read_so_far : (c : After-trick_in-trick) → card_fault c.args.layout.now.bytes.now ≡ None → Read c.args.layout.now.bytes.now c.args.trump c.in_ok-hands.hands c.args.layout.now.leader c.trick_in-trick.result c.args.played
@@ -58,8 +47,7 @@ pub returns-in_err-check_suits : goal.returns-in_err-check_suits
 returns-in_err-check_suits c follow room =
     let clean = cards_clean (goal.at.returns-in_err-check_suits c).In_ok-hands in
     let read = read_so_far (goal.at.returns-in_err-check_suits c).After-trick_in-trick clean in
-    let e = err_from_is_err_and c.from_residual-in_err-check_suits.result c.from_residual-in_err-check_suits.ensures.1 in
-    board_refused _ 6 _ _ _ _ _ e.1 e.2 c.in_err-check_suits.ensures.0 (suits_same _ _ _ _ _ _ read ∙ c.in_err-check_suits.ensures.1)
+    board_refused _ 6 _ _ _ _ c.from_residual-in_err-check_suits.ensures.1 c.in_err-check_suits.ensures.0 (suits_same _ _ _ _ _ _ read ∙ c.in_err-check_suits.ensures.1)
     ∙ sym (passes _ 4 _ clean ∙ passes _ 5 _ c.in_ok-check_shares.ensures.0)
 
 pub invariant_of-result : goal.invariant_of-result

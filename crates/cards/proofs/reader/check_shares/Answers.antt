@@ -1,4 +1,4 @@
-use Rattle.std.proofs.Common.{◌≡◌, ℕ, Bool, true, false, List, Some, sym, refl, ap, ◌∙◌, ap₂, arith}
+use Rattle.std.proofs.Common.{rules, ◌≡◌, ℕ, Bool, true, List, Some, sym, refl, ap, ◌∙◌}
 use Rattle.cards.specs.Deal.{byte, start_of, first, fault, uneven, share}
 use Rattle.cards.proofs.DealLaws.{first_none, first_some}
 use Rattle.cards.proofs.reader.check_shares.Goals as goal
@@ -6,8 +6,7 @@ use Rattle.cards.proofs.reader.check_shares.Goals as goal
 -- the fault of a player's share, by the numbers that the code has for it
 share_is : (bs : List ℕ) (p seat own each : ℕ) (b : Bool) → own ≡ share bs p → each ≡ share bs seat → seat ≡ byte bs 1 → b ≡ uneven own each →
     fault (uneven (share bs p) (share bs (byte bs 1))) (start_of bs p) ≡ fault b (start_of bs p)
-share_is bs p seat own each b o e s t =
-    ap₂ (λ (x y : ℕ). fault (uneven x y) (start_of bs p)) (sym o) (ap (share bs) (sym s) ∙ sym e) ∙ ap (λ (x : Bool). fault x (start_of bs p)) (sym t)
+share_is bs p seat own each b o e s t = rw (t, o, e, s) refl
 
 pub loop-p-init : goal.loop-p-init
 unfolding first
@@ -23,10 +22,4 @@ returns-then-is_uneven c =
     )
 
 pub loop-p-preserved : goal.loop-p-preserved
-loop-p-preserved c =
-    let g = c.args.layout.now in
-    first_none _ c.loop-p.p c.loop-p.invariant
-    (share_is g.bytes.now c.loop-p.p _ _ _ false c.share.ensures c.share-each.ensures g.leads c.if-is_uneven.ensures)
-
-pub returns : goal.returns
-returns c = let four : c.loop-p.p ≡ 4 = omega arith in (ap (first _) (sym four) ∙ c.loop-p.invariant, tt)
+loop-p-preserved c = search (rules, first_none, share_is)

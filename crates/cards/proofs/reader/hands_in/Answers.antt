@@ -1,11 +1,10 @@
-use Rattle.std.proofs.Common.{◌≡◌, ℕ, ◌+◌, ◌≤◌, List, length, get_or, Some, None, sym, refl, ap, ◌∙◌, subst, arith}
+use Rattle.std.proofs.Common.{rules, ◌≡◌, Some, None, refl, arith}
 use Rattle.std.proofs.lemmas.List.{map-set}
-use Rattle.std.proofs.lemmas.Result.{err_from_is_err_and}
 use Rattle.cards.specs.Bits.{bit}
 use Rattle.cards.specs.Hands.{bits_of}
 use Rattle.cards.specs.Deal.{first, first_bad, hand_fault}
 use Rattle.cards.specs.Refusals.{place_of}
-use Rattle.cards.specs.Parts.{Gathered, Dealt}
+use Rattle.cards.specs.Parts.{Gathered}
 use Rattle.cards.proofs.DealLaws.{part_length, cards_at, cards_there, first_none, first_some}
 use Rattle.cards.proofs.GatherLaws.{dealt_none, dealt_more, fault_at}
 use Rattle.cards.proofs.ReadLaws.{says_err}
@@ -16,29 +15,24 @@ unfolding first
 loop-p-init c = (refl, dealt_none c.args.layout.now.bytes.now _ c.args.trick.bits refl c.requires.trick)
 
 pub overflow_add-start : goal.overflow_add-start
-overflow_add-start c = let g = c.args.layout.now in omega (arith, cards_there g.bytes.now c.loop-p.p _ (g.placed c.loop-p.p c.loop-p-test.true) c.loop-p-test.true c.requires.whole)
+overflow_add-start c = omega (arith, cards_there c.args.layout.now.bytes.now _ _ (c.args.layout.now.placed _ c.loop-p-test.true) c.loop-p-test.true c.requires.whole)
 
 pub part-cards-requires : goal.part-cards-requires
-part-cards-requires c = let g = c.args.layout.now in omega (arith, c.byte_at.ensures, cards_there g.bytes.now c.loop-p.p _ (g.placed c.loop-p.p c.loop-p-test.true) c.loop-p-test.true c.requires.whole)
+part-cards-requires c = search (rules, cards_there)
 
 pub overflow_add-start-in-loop-p : goal.overflow_add-start-in-loop-p
-overflow_add-start-in-loop-p c = let g = c.args.layout.now in omega (arith, cards_there g.bytes.now c.loop-p.p _ (g.placed c.loop-p.p c.loop-p-test.true) c.loop-p-test.true c.requires.whole)
+overflow_add-start-in-loop-p c = search (rules, cards_there)
 
 pub gather-requires : goal.gather-requires
-gather-requires c =
-    let g = c.args.layout.now in
-    let there = cards_there g.bytes.now c.loop-p.p _ (g.placed c.loop-p.p c.loop-p-test.true) c.loop-p-test.true c.requires.whole in
-    let within : (get_or g.starts c.loop-p.p 0 + 1) + c.byte_at.result ≤ length g.bytes.now = omega (arith, c.byte_at.ensures, there) in
-    omega (arith, c.byte_at.ensures, there, ap length c.part-cards.ensures ∙ part_length g.bytes.now (get_or g.starts c.loop-p.p 0 + 1) c.byte_at.result within)
+gather-requires c = search (rules, cards_there, part_length)
 
 pub returns-in_err-hand : goal.returns-in_err-hand
 returns-in_err-hand c =
     let g = c.args.layout.now in
     let p = c.loop-p.p in
     let taken = c.loop-p.taken.bits in
-    let e = err_from_is_err_and c.from_residual.result c.from_residual.ensures.1 in
     let bad = cards_at g.bytes.now p _ _ _ (g.placed p c.loop-p-test.true) c.byte_at.ensures c.part-cards.ensures (λ i cs. first_bad (bit taken) i cs ≡ Some (place_of c.in_err-hand.field-0.0)) c.in_err-hand.ensures.1 in
-    says_err 4 _ _ _ _ _ e.1 e.2 c.in_err-hand.ensures.0
+    says_err 4 _ _ _ _ c.from_residual.ensures.1 c.in_err-hand.ensures.0
     (first_some (hand_fault g.bytes.now) 4 p _ c.loop-p-test.true c.loop-p.invariant.0 (fault_at g.bytes.now _ taken p _ c.loop-p.invariant.1 bad))
 
 pub loop-p-preserved : goal.loop-p-preserved
@@ -50,12 +44,6 @@ loop-p-preserved c =
     let d = c.loop-p.invariant.1 in
     let g = cards_at bs p _ _ _ (c.args.layout.now.placed p c.loop-p-test.true) c.byte_at.ensures c.part-cards.ensures (λ i cs. (first_bad (bit taken) i cs ≡ None) × Gathered cs hand) c.in_ok-hand.ensures in (
       first_none (hand_fault bs) p c.loop-p.invariant.0 (fault_at bs _ taken p None d g.0),
-      subst (λ (xs : List ℕ). Dealt bs (p + 1) xs c.union-taken.result.bits) (sym (map-set (λ h. h.bits) c.loop-p.hands p c.in_ok-hand.hand))
+      rw (map-set (λ h. h.bits) c.loop-p.hands p c.in_ok-hand.hand)
           (dealt_more bs (bits_of c.loop-p.hands) taken hand _ p d c.loop-p-test.true c.requires.whole g.1 c.union-taken.ensures),
     )
-
-pub returns : goal.returns
-returns c =
-    let bs = c.args.layout.now.bytes.now in
-    let four : c.loop-p.p ≡ 4 = omega arith in
-    (ap (first (hand_fault bs)) (sym four) ∙ c.loop-p.invariant.0, (c.loop-p.taken.bits, subst (λ (n : ℕ). Dealt bs n (bits_of c.loop-p.hands) c.loop-p.taken.bits) four c.loop-p.invariant.1))

@@ -1,7 +1,5 @@
-use Rattle.std.proofs.Common.{sym, refl}
-use Rattle.cards.specs.Table.{has_suit, deck}
-use Rattle.cards.specs.Bits.{bit}
-use Rattle.cards.specs.Numbers.{suit_number}
+use Rattle.std.proofs.Common.{rules, sym, refl}
+use Rattle.cards.specs.Table.{has_suit}
 use Rattle.cards.proofs.SuitLaws.{none_more, some_at}
 use Rattle.cards.proofs.hand.Hand.has_suit.Goals as goal
 
@@ -10,8 +8,7 @@ unfolding has_suit
 loop-number-init c = refl
 
 pub returns-then-holds_of : goal.returns-then-holds_of
-returns-then-holds_of c =
-    sym (some_at (bit c.args.self.bits) (suit_number c.args.suit) deck c.loop-number.number c.loop-number-test.true (sym c.if-holds_of.ensures))
+returns-then-holds_of c = sym (some_at _ _ _ _ c.loop-number-test.true (sym c.if-holds_of.ensures))
 
 pub loop-number-preserved : goal.loop-number-preserved
-loop-number-preserved c = none_more (bit c.args.self.bits) (suit_number c.args.suit) c.loop-number.number c.loop-number.invariant (sym c.if-holds_of.ensures)
+loop-number-preserved c = search (rules, none_more)
