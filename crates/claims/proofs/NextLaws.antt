@@ -13,7 +13,7 @@ use Rattle.referee.specs.Right.{card_at}
 use Rattle.referee.specs.Parts.{Turned}
 use Rattle.referee.proofs.WhyLaws.{nobody, why_right}
 use Rattle.worth.specs.Positions.{Under}
-use Rattle.worth.proofs.PositionLaws.{under_root, under_after}
+use Rattle.worth.proofs.PositionLaws.{under_after}
 use Rattle.claims.specs.Advice.{advice}
 use Rattle.claims.specs.Judging.{own_turn}
 use Rattle.claims.specs.PlayOn.{own_card, RowTurn, Runs, ends, by_advice, by_row, Halts, here, past_advice, past_row}
@@ -67,15 +67,6 @@ pub record OnTheWay (side : Bool) (t : Table) (cs cards : List ℕ) (i : ℕ) (u
   pub runs : (ds : List ℕ) → Runs side u (drop i cs) ds → Runs side t cs (cards ++ ds)
   pub halts : (n p : ℕ) → Halts side u (drop i cs) n p → Halts side t cs n (i + p)
   pub under : Under t u
-
-pub way_none : (side : Bool) (t : Table) (cs cards : List ℕ) → cards ≡ [] → OnTheWay side t cs cards 0 t
-way_none side t cs cards e = record {
-  left = omega (arith, ap length e);
-  used = omega arith;
-  runs = λ ds r. subst (λ (xs : List ℕ). Runs side t cs (xs ++ ds)) (sym e) r;
-  halts = λ n p h. let e : p ≡ 0 + p = omega arith in subst (λ (q : ℕ). Halts side t cs n q) e h;
-  under = under_root t;
-}
 
 module _ (side : Bool) (t : Table) (cs cards : List ℕ) (i : ℕ) (u : Table) (w : OnTheWay side t cs cards i u) where
   -- a card that is played finds a place

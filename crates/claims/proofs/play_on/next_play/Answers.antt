@@ -14,13 +14,10 @@ told : (t : Table) (cs : List ℕ) (i c : ℕ) → may t c ≡ true → (r : Opt
 told t cs i c m None f = both_ways _ f m
 told t cs i c m (Some x) p = p
 
-pub returns-in-Some : goal.returns-in-Some
-returns-in-Some c =
+pub returns-in-Some-clause-next : goal.returns-in-Some-clause-next
+returns-in-Some-clause-next c =
     let t = seen c.args.board.now in
     let x = c.in-Some.card.number in
     let is = c.in-Some.ensures.card in
-    record {
-      next = subst (λ (o : Option ℕ). NextTold o t c.args.row.now c.args.used (Ok c.by_advice.result)) is
-          (told t c.args.row.now c.args.used x (own_legal (is_ours c.args.side) t x (sym is)) c.by_advice.result c.by_advice.ensures);
-      same = c.in-Some.ensures.same;
-    }
+    subst (λ (o : Option ℕ). NextTold o t c.args.row.now c.args.used (Ok c.by_advice.result)) is
+    (told t c.args.row.now c.args.used x (own_legal (is_ours c.args.side) t x (sym is)) c.by_advice.result c.by_advice.ensures)

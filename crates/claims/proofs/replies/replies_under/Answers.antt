@@ -1,4 +1,4 @@
-use Rattle.std.proofs.Common.{◌≡◌, arith, rules}
+use Rattle.std.proofs.Common.{rules}
 use Rattle.cards.proofs.Order.{in_order}
 use Rattle.claims.proofs.ReplyLaws.{row_none, row_skips, row_place, row_more}
 use Rattle.claims.proofs.replies.replies_under.Goals as goal
@@ -20,11 +20,3 @@ loop-number-preserved c = elim c.match-reply_to.branch [
       record { row = rw w.replies-is (row_more _ _ _ _ _ _ c.nth_card.ensures _ c.loop-number.invariant.row _ _ more m told); same = search rules }
   | in_default w ↦ record { row = rw w.replies-is (row_skips _ _ _ _ _ _ c.nth_card.ensures _ c.loop-number.invariant.row w.in_default.ensures.reply); same = search rules }
 ]
-
-pub returns : goal.returns
-returns c =
-    let all : c.loop-number.number ≡ 52 = omega arith in
-    record {
-      replies = rw all at c.loop-number.invariant.row.told;
-      same = c.loop-number.invariant.same;
-    }

@@ -1,4 +1,4 @@
-use Rattle.std.proofs.Common.{Bool, Some, None, sym, refl, ap, ◌∙◌, arith, rules}
+use Rattle.std.proofs.Common.{Bool, Some, None, sym, refl, ap, ◌∙◌, arith}
 use Rattle.cards.specs.Table.{pick}
 use Rattle.cards.specs.Seen.{seen, tricks_left}
 use Rattle.cards.proofs.Order.{in_order}
@@ -14,13 +14,10 @@ overflow_add-result c =
     let b = c.args.board.now in
     omega (arith, (in_order b).few, after_within b c.args.card.number c.in_ok-played.played c.in_ok-played.ensures (tricks_left b) _ _ refl c.gain.ensures c.worth_under-rest.ensures.worth)
 
-pub returns : goal.returns
-returns c =
+pub returns-clause-worth : goal.returns-clause-worth
+returns-clause-worth c =
     let b = c.args.board.now in
     let x = c.args.card.number in
     let done = c.in_ok-played.ensures in
-    record {
-      worth = ap Some (after_worth b x c.in_ok-played.played done _ _ c.gain.ensures c.worth_under-rest.ensures.worth)
-          ∙ sym (ap (λ (m : Bool). pick m (Some (worth_by (seen b) x)) None) done.legal);
-      same = search rules;
-    }
+    ap Some (after_worth b x c.in_ok-played.played done _ _ c.gain.ensures c.worth_under-rest.ensures.worth)
+    ∙ sym (ap (λ (m : Bool). pick m (Some (worth_by (seen b) x)) None) done.legal)
