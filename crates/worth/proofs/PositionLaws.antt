@@ -31,10 +31,7 @@ under_after root t u c h e =
 pub under_trans : (root t u : Table) → Under root t → Under t u → Under root u
 under_trans root t u h k = record { trump = k.trump ∙ h.trump; cards = λ p c e. h.cards p c (k.cards p c e) }
 
--- positions that were just made for a root, and positions that are kept on, of the same root
-pub under_new : (root b : Board) → root ≡ b → Under (seen root) (seen b)
-under_new root b e = subst (λ (r : Board). Under (seen r) (seen b)) (sym e) (under_root (seen b))
-
+-- positions that are kept on are of the same root
 pub under_same : (p q : Positions) → SameSlots p q → (t : Table) → Under (seen p.root) t → Under (seen q.root) t
 under_same p q s t = subst (λ (b : Board). Under (seen b) t) (sym s.root)
 
@@ -52,18 +49,6 @@ by_held t (suc zero) c l h = or_left (t.hand 0 c || t.hand 1 c) _ (or_right _ _ 
 by_held t (suc (suc zero)) c l h = or_right (t.hand 0 c || t.hand 1 c) _ (or_left _ _ h)
 by_held t (suc (suc (suc zero))) c l h = or_right (t.hand 0 c || t.hand 1 c) _ (or_right (t.hand 2 c) _ h)
 by_held t (suc (suc (suc (suc p)))) c l h = absurd (omega arith)
-
--- the cards of the four hands
-pub held_is : (hands : List Hand) (a b c d : Hand) → length hands ≡ 4 → (x : ℕ) →
-    ((bit (get_or hands 0 a).bits x || bit (get_or hands 1 b).bits x) || (bit (get_or hands 2 c).bits x || bit (get_or hands 3 d).bits x))
-    ≡ ((held_in hands 0 x || held_in hands 1 x) || (held_in hands 2 x || held_in hands 3 x))
-held_is hands a b c d four x = ap₂ or (ap₂ or (at 0 a (omega arith)) (at 1 b (omega arith))) (ap₂ or (at 2 c (omega arith)) (at 3 d (omega arith)))
-  where
-    or : Bool → Bool → Bool
-    or p q = p || q
-
-    at : (p : ℕ) (h : Hand) → p < 4 → bit (get_or hands p h).bits x ≡ held_in hands p x
-    at p h l = ap (λ (n : ℕ). bit n x) (sym (get_or-map (λ (k : Hand). k.bits) hands p h 0 (omega arith)))
 
 -- nobody sits past the four
 nobody : (b : Board) (p c : ℕ) → 4 ≤ p → (seen b).hand p c ≡ false

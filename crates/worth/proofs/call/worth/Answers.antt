@@ -2,12 +2,8 @@ use Rattle.std.proofs.Common.{ℕ, ◌≤◌, sym, ◌∙◌, subst, rules}
 use Rattle.cards.specs.Seen.{seen, tricks_left}
 use Rattle.cards.proofs.Order.{in_order}
 use Rattle.tricks.specs.Plays.{Worth}
-use Rattle.worth.proofs.PositionLaws.{under_root}
 use Rattle.worth.proofs.ValueLaws.{value_is_worth, worth_is, worth_low}
 use Rattle.worth.proofs.call.worth.Goals as goal
-
-pub worth_under-requires : goal.worth_under-requires
-worth_under-requires c = under_root (seen c.args.board.now)
 
 pub returns : goal.returns
 returns c =
