@@ -90,7 +90,7 @@ position_is root b k s =
 pub true_read : (root b : Board) (keys worths : List ℕ) (i k : ℕ) → True (seen root) keys worths → i < length keys → get_or keys i 0 ≡ k →
     Starting root b k → get_or worths i 0 ≡ worth_of (seen b)
 unfolding True
-true_read root b keys worths i k h l e s = h i l ∙ ap (λ (j : ℕ). worth_of (position (seen root) j)) e ∙ ap worth_of (position_is root b k s)
+true_read root b keys worths i k h l e s = let is = h i l in let at = position_is root b k s in cc
 
 pub true_store : (root b : Board) (keys worths : List ℕ) (i k w : ℕ) → True (seen root) keys worths → i < length keys → length keys ≡ length worths →
     Starting root b k → w ≡ worth_of (seen b) → True (seen root) (set keys i k) (set worths i w)
@@ -105,7 +105,7 @@ true_store root b keys worths i k w h l same s e j m = elim (cases_eq j i) [
 
 -- an empty slot is that of the table with no cards
 empty_worth : (root : Table) (k : ℕ) → k ≡ 0 → worth_of (position root k) ≡ 0
-empty_worth root k e = worth_none (position root k) (ap₂ (λ (x y : ℕ). x + y) (ap₂ (λ (x y : ℕ). x + y) (gone 0) (gone 1)) (ap₂ (λ (x y : ℕ). x + y) (gone 2) (gone 3)))
+empty_worth root k e = worth_none (position root k) (omega (arith, gone 0, gone 1, gone 2, gone 3))
   where
     gone : (p : ℕ) → count ((position root k).hand p) deck ≡ 0
     gone p = count_none ((position root k).hand p) deck (λ c. and_right _ _ (ap (λ (x : ℕ). bit (x % 2 ^ deck) c) e ∙ bit_zero c))
