@@ -1,5 +1,5 @@
 -- What comes of a card of a board: the table under the same root, and what the card brings. Assumes nothing.
-use Rattle.std.proofs.Common.{◌≡◌, ℕ, ◌+◌, ◌≤◌, ap, ◌∙◌, ap₂, arith}
+use Rattle.std.proofs.Common.{◌≡◌, ℕ, ◌+◌, ◌≤◌, ap, arith}
 use Rattle.cards.specs.Table.{Table}
 use Rattle.cards.specs.Seen.{seen, tricks_left}
 use Rattle.cards.specs.declared.board.Board.{Board}

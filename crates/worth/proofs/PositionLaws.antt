@@ -1,10 +1,10 @@
 -- Positions and their keys, and what the slots keep. Assumes nothing.
-use Rattle.std.proofs.Common.{◌≡◌, ℕ, zero, suc, ◌+◌, ◌%◌, ◌^◌, ◌<◌, ◌≤◌, Bool, true, false, ◌&&◌, ◌||◌, eqb, List, length, get_or, take, set, replicate, sym, refl, ap, ◌∙◌, subst, ap₂, inl, inr, arith, lit<, length-set}
+use Rattle.std.proofs.Common.{◌≡◌, ℕ, zero, suc, ◌%◌, ◌^◌, ◌<◌, ◌≤◌, Bool, true, false, ◌&&◌, ◌||◌, eqb, List, length, get_or, take, set, replicate, sym, refl, ap, ◌∙◌, subst, inl, inr, arith, lit<, length-set}
 use Rattle.std.proofs.lemmas.Bool.{eqb-true, cases_eq, cases_lt, cases_Bool, and_from, and_parts, and_left, and_right, or_left, or_right, or_cases, both_ways}
-use Rattle.std.proofs.lemmas.List.{length-map, get_or-map, get_or_past, get_or-set_same, get_or-set_other}
+use Rattle.std.proofs.lemmas.List.{length-map, get_or_past, get_or-set_same, get_or-set_other}
 use Rattle.cards.specs.Table.{Table, deck, count}
 use Rattle.cards.specs.Bits.{bit}
-use Rattle.cards.specs.Hands.{bits_of, held as held_in, numbers}
+use Rattle.cards.specs.Hands.{bits_of, numbers}
 use Rattle.cards.specs.Seen.{seen}
 use Rattle.cards.specs.declared.board.Board.{Board}
 use Rattle.cards.specs.declared.hand.Hand.{Hand}

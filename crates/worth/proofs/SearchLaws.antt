@@ -1,10 +1,10 @@
 -- The window so far, as the search goes through the cards, and the tables that it goes on to. Assumes nothing.
-use Rattle.std.proofs.Common.{◌≡◌, ℕ, ◌+◌, ◌-◌, ◌%◌, ◌<◌, ◌≤◌, min, Bool, true, false, eqb, [], ◌∷◌, ◌++◌, length, Some, None, Option, sym, refl, ap, ◌∙◌, subst, ap₂, arith}
-use Rattle.cards.specs.Table.{Table, pick, one, deck, Sound, cards_left}
+use Rattle.std.proofs.Common.{◌≡◌, ℕ, ◌+◌, ◌-◌, ◌<◌, ◌≤◌, min, Bool, true, false, eqb, [], ◌∷◌, ◌++◌, length, Some, None, Option, sym, refl, ap, ◌∙◌, subst, ap₂, arith}
+use Rattle.cards.specs.Table.{Table, pick, deck, Sound, cards_left}
 use Rattle.cards.specs.Seen.{seen, tricks_left}
 use Rattle.cards.specs.declared.board.Board.{Board}
 use Rattle.cards.proofs.Order.{in_order}
-use Rattle.tricks.specs.Rules.{our_turn, may, winner, after}
+use Rattle.tricks.specs.Rules.{our_turn, winner, after}
 use Rattle.tricks.specs.Taken.{taker_of, gain_of}
 use Rattle.tricks.specs.Moves.{After}
 use Rattle.tricks.specs.declared.play.Played.{Played}
@@ -23,7 +23,7 @@ next_left (Some p) n = omega arith
 
 gain_small : (taker : Option ℕ) → gain_of taker ≤ 1
 gain_small None = omega arith
-gain_small (Some p) = elim (eqb (p % 2) 0) as (λ x. one x ≤ 1) [ true ↦ omega arith | false ↦ omega arith ]
+gain_small (Some p) = grind arith
 
 -- a worth that was found within all of the tricks left, or that is exact, is the worth
 worth_within : (b : Board) (left : ℕ) → left ≡ tricks_left b → worth_of (seen b) ≤ left
