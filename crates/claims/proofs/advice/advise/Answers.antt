@@ -1,13 +1,9 @@
 use Rattle.std.proofs.Common.{rules}
 use Rattle.cards.specs.Seen.{seen, tricks_left}
 use Rattle.cards.proofs.Order.{in_order}
-use Rattle.worth.proofs.PositionLaws.{under_root}
 use Rattle.equals.specs.Covered.{card_told}
 use Rattle.claims.proofs.AdviceLaws.{named}
 use Rattle.claims.proofs.advice.advise.Goals as goal
-
-pub advice_under-requires : goal.advice_under-requires
-advice_under-requires c = under_root (seen c.args.board.now)
 
 pub returns : goal.returns
 returns c =

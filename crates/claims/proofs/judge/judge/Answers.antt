@@ -1,16 +1,12 @@
 use Rattle.std.proofs.Common.{sym, subst, rules}
 use Rattle.cards.specs.Seen.{seen, tricks_left}
 use Rattle.cards.proofs.Order.{in_order}
-use Rattle.worth.proofs.PositionLaws.{under_root}
 use Rattle.claims.specs.Claimed.{claims_side, claims_tricks}
 use Rattle.claims.specs.Judged.{judgement_told}
 use Rattle.claims.specs.Shown.{Shows}
 use Rattle.claims.proofs.JudgeLaws.{judged_can, judged_cannot, judged_worth}
 use Rattle.claims.proofs.ShownLaws.{judging_shows}
 use Rattle.claims.proofs.judge.judge.Goals as goal
-
-pub judge_under-requires : goal.judge_under-requires
-judge_under-requires c = under_root (seen c.args.board.now)
 
 pub returns-clause-judged : goal.returns-clause-judged
 returns-clause-judged c =

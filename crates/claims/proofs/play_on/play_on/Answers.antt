@@ -5,7 +5,6 @@ use Rattle.std.proofs.lemmas.Bool.{not-true, not-false, ltb-true, ltb-false}
 use Rattle.cards.specs.Table.{Table, cards_left}
 use Rattle.cards.specs.Seen.{seen, tricks_left}
 use Rattle.cards.proofs.Order.{in_order}
-use Rattle.worth.proofs.PositionLaws.{under_root}
 use Rattle.claims.specs.Sides.{is_ours}
 use Rattle.claims.specs.PlayOn.{Runs}
 use Rattle.claims.specs.Nexts.{CourseIs}
@@ -13,9 +12,6 @@ use Rattle.claims.specs.PlayedOn.{no_places, no_slots, bad_card, PlayOnTold}
 use Rattle.claims.specs.declared.play_on.Course.{Course}
 use Rattle.claims.proofs.LineToldLaws.{never_refused, line_told}
 use Rattle.claims.proofs.play_on.play_on.Goals as goal
-
-pub course_from-requires : goal.course_from-requires
-course_from-requires c = under_root (seen c.args.board.now)
 
 pub returns-then-not-has_places : goal.returns-then-not-has_places
 returns-then-not-has_places c = (no_places (ltb-true _ _ (not-false _ (sym c.if-not-has_places.ensures))) refl refl, refl)
