@@ -26,14 +26,14 @@ pub under_after : (root t u : Table) (c : ℕ) → Under root t → u ≡ after 
 unfolding after
 under_after root t u c h e =
     let go : Under root (after t c) = record { trump = h.trump; cards = λ p x held. h.cards p x (and_parts _ _ held).0 } in
-    subst (Under root) (sym e) go
+    rw e go
 
 pub under_trans : (root t u : Table) → Under root t → Under t u → Under root u
 under_trans root t u h k = record { trump = k.trump ∙ h.trump; cards = λ p c e. h.cards p c (k.cards p c e) }
 
 -- positions that are kept on are of the same root
 pub under_same : (p q : Positions) → SameSlots p q → (t : Table) → Under (seen p.root) t → Under (seen q.root) t
-under_same p q s t = subst (λ (b : Board). Under (seen b) t) (sym s.root)
+under_same p q s t h = rw s.root h
 
 -- ---- the key of a position stands for it
 -- a card that is held is in the hand of a player

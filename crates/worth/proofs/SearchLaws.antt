@@ -69,7 +69,7 @@ so_far_none b n w set i left enough e some most = record {
 }
   where
     sound : Sound (seen b) n
-    sound = subst (λ (m : ℕ). Sound (seen b) m) (sym left) (in_order b).sound
+    sound = rw left (in_order b).sound
 
 module _ (b : Board) (left : ℕ) (w : Window) (set : ℕ → Bool) where
   abbrev t : Table

@@ -12,12 +12,12 @@ returns c =
     let n = tricks_left b in
     let sound = (in_order b).sound in
     let is = c.worth_under.ensures.worth in
-    let w : Worth t c.worth_under.result = subst (Worth t) (sym is) (value_is_worth t n sound) in
+    let w : Worth t c.worth_under.result = rw is (value_is_worth t n sound) in
     record {
       lent = search rules;
       takes = w.0;
       held = w.1;
-      low = subst (λ (v : ℕ). v ≤ n) (sym is) (worth_low t n sound);
+      low = rw is (worth_low t n sound);
       only = λ x h. worth_is t n x sound h ∙ sym is;
       value = is;
       kept = search rules;
