@@ -1,5 +1,5 @@
 -- Positions and their keys, and what the slots keep. Assumes nothing.
-use Rattle.std.proofs.Common.{◌≡◌, ℕ, zero, suc, ◌%◌, ◌^◌, ◌<◌, ◌≤◌, Bool, true, false, ◌&&◌, ◌||◌, eqb, List, length, get_or, take, set, replicate, sym, refl, ap, ◌∙◌, subst, inl, inr, arith, lit<, length-set}
+use Rattle.std.proofs.Common.{◌≡◌, ℕ, zero, suc, ◌%◌, ◌^◌, ◌<◌, ◌≤◌, Bool, true, false, ◌&&◌, ◌||◌, eqb, List, length, get_or, take, set, replicate, sym, refl, ap, ◌∙◌, inl, inr, arith, lit<, length-set}
 use Rattle.std.proofs.lemmas.Bool.{eqb-true, cases_eq, cases_lt, cases_Bool, and_from, and_parts, and_left, and_right, or_left, or_right, or_cases, both_ways}
 use Rattle.std.proofs.lemmas.List.{length-map, get_or_past, get_or-set_same, get_or-set_other}
 use Rattle.cards.specs.Table.{Table, deck, count}
@@ -95,13 +95,16 @@ true_read root b keys worths i k h l e s = let is = h i l in let at = position_i
 pub true_store : (root b : Board) (keys worths : List ℕ) (i k w : ℕ) → True (seen root) keys worths → i < length keys → length keys ≡ length worths →
     Starting root b k → w ≡ worth_of (seen b) → True (seen root) (set keys i k) (set worths i w)
 unfolding True
-true_store root b keys worths i k w h l same s e j m = elim (cases_eq j i) [
-  | inl q ↦
-      ap (λ (x : ℕ). get_or (set worths i w) x 0) q ∙ get_or-set_same worths i w 0 (omega arith) ∙ e ∙ ap worth_of (sym (position_is root b k s))
-      ∙ ap (λ (x : ℕ). worth_of (position (seen root) x)) (sym (get_or-set_same keys i k 0 l) ∙ ap (λ (x : ℕ). get_or (set keys i k) x 0) (sym q))
-  | inr q ↦
-      get_or-set_other worths i j w 0 q ∙ h j (omega (arith, length-set keys i k)) ∙ ap (λ (x : ℕ). worth_of (position (seen root) x)) (sym (get_or-set_other keys i j k 0 q))
-]
+true_store root b keys worths i k w h l same s e j m =
+    let at = position_is root b k s in
+    elim (cases_eq j i) [
+      | inl q ↦ let here = get_or-set_same worths i w 0 (omega arith) in let key = get_or-set_same keys i k 0 l in cc
+      | inr q ↦
+          let there = get_or-set_other worths i j w 0 q in
+          let key = get_or-set_other keys i j k 0 q in
+          let was = h j (omega (arith, length-set keys i k)) in
+          cc
+    ]
 
 -- an empty slot is that of the table with no cards
 empty_worth : (root : Table) (k : ℕ) → k ≡ 0 → worth_of (position root k) ≡ 0
@@ -118,6 +121,4 @@ zeros_at (suc n) (suc i) = zeros_at n i
 
 pub true_empty : (root : Table) (keys worths : List ℕ) (n m : ℕ) → keys ≡ replicate n 0 → worths ≡ replicate m 0 → True root keys worths
 unfolding True
-true_empty root keys worths n m e f i l =
-    ap (λ (xs : List ℕ). get_or xs i 0) f ∙ zeros_at m i
-    ∙ sym (empty_worth root (get_or keys i 0) (ap (λ (xs : List ℕ). get_or xs i 0) e ∙ zeros_at n i))
+true_empty root keys worths n m e f i l = rw (e, f) (zeros_at m i ∙ sym (empty_worth root (get_or (replicate n 0) i 0) (zeros_at n i)))

@@ -1,5 +1,5 @@
 -- The window so far, as the search goes through the cards, and the tables that it goes on to. Assumes nothing.
-use Rattle.std.proofs.Common.{◌≡◌, ℕ, ◌+◌, ◌-◌, ◌<◌, ◌≤◌, min, Bool, true, false, eqb, [], ◌∷◌, ◌++◌, length, Some, None, Option, sym, refl, ap, ◌∙◌, subst, ap₂, arith}
+use Rattle.std.proofs.Common.{◌≡◌, ℕ, ◌+◌, ◌-◌, ◌<◌, ◌≤◌, min, Bool, true, false, eqb, [], ◌∷◌, ◌++◌, length, Some, None, Option, sym, refl, ap, ◌∙◌, ap₂, arith}
 use Rattle.cards.specs.Table.{Table, pick, deck, Sound, cards_left}
 use Rattle.cards.specs.Seen.{seen, tricks_left}
 use Rattle.cards.specs.declared.board.Board.{Board}

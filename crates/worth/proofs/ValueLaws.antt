@@ -7,11 +7,11 @@ use Rattle.tricks.specs.Plays.{Takes, none, we_play, they_play, Held, out_of_car
 use Rattle.tricks.specs.Statements.{left_after}
 use Rattle.tricks.proofs.MayLaws.{may_parts}
 use Rattle.tricks.proofs.Stays.{keeps_sound}
-use Rattle.worth.specs.Value.{worst, tricks, tricks_at, best_below, value, worth_of}
+use Rattle.worth.specs.Value.{tricks, tricks_at, best_below, value, worth_of}
 use Rattle.worth.specs.Statements.{OneWorth, ValueIsWorth}
 use Rattle.tricks.proofs.CardsLeft.{cards_are, some_trick, some_card, none_may, one_fewer, gains_fit}
 use Rattle.worth.proofs.PlayLaws.{takes_fewer, held_more, worth_once, at_most}
-use Rattle.worth.proofs.BestLaws.{by_card, NoWorse, none_better, best_given, best_same}
+use Rattle.worth.proofs.BestLaws.{by_card, none_better, best_given, best_same}
 
 -- where v is the worth after each card, the best over all cards is the worth before
 module _ (t : Table) (n : ℕ) (s : Sound t n) (v : Table → ℕ) (is : (c : ℕ) → may t c ≡ true → Worth (after t c) (v (after t c))) where
