@@ -29,11 +29,10 @@ fn after_hand(bytes: &[u8], start: usize) -> usize
 }
 
 // How many seats after the leader a player sits.
-fn seats_after(leader: Player, p: usize) -> usize
-    requires { p < 4 }
-    ensures { result ≡ ((p + 4) - leader.seat) % 4 }
+fn seats_after(leader: Player, player: Player) -> u8
+    ensures { result ≡ ((player.seat + 4) - leader.seat) % 4 }
 {
-    (p + 4 - leader.seat as usize) % 4
+    (player.seat + 4 - leader.seat) % 4
 }
 
 impl<'a> Layout<'a> {
@@ -66,12 +65,11 @@ impl<'a> Layout<'a> {
     }
 
     // A player's cards, with its card in the trick.
-    pub(crate) fn share(&self, p: usize) -> usize
-        requires { p < 4 }
-        ensures { result ≡ share self.now.bytes.now p }
+    pub(crate) fn share(&self, player: Player) -> usize
+        ensures { result ≡ share self.now.bytes.now player.seat }
     {
-        let cards = byte_at(self.bytes, self.starts[p]) as usize;
-        if seats_after(self.leader, p) < byte_at(self.bytes, 2) as usize {
+        let cards = byte_at(self.bytes, self.starts[player.seat as usize]) as usize;
+        if seats_after(self.leader, player) < byte_at(self.bytes, 2) {
             cards + 1
         } else {
             cards

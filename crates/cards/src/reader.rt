@@ -113,9 +113,10 @@ fn is_uneven(own: usize, each: usize) -> bool
 fn check_shares(layout: &Layout<'_>) -> Result<(), Refusal>
     ensures { Says 5 result (share_fault layout.now.bytes.now) (λ _. Unit {0}) }
 {
-    let each = layout.share(layout.leader.seat as usize);
+    let each = layout.share(layout.leader);
     for (p, start) in layout.starts.iter().enumerate() {
-        if is_uneven(layout.share(p), each) {
+        let player = Player { seat: p as u8 };
+        if is_uneven(layout.share(player), each) {
             return Err(Refusal::Share(*start));
         }
     }

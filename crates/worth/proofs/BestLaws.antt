@@ -1,5 +1,5 @@
 -- The best over a set of cards: card by card, that some card gives it and none gives better, and when two sets have the same. Assumes nothing.
-use Rattle.std.proofs.Common.{◌≡◌, ℕ, zero, suc, ◌+◌, ◌<◌, ◌≤◌, Bool, true, false, ◌⊎◌, sym, refl, ◌∙◌, subst, inl, inr, add-one, arith}
+use Rattle.std.proofs.Common.{◌≡◌, ℕ, zero, suc, ◌+◌, ◌<◌, ◌≤◌, Bool, true, false, ◌⊎◌, sym, refl, subst, inl, inr, add-one, arith}
 use Rattle.std.proofs.lemmas.Bool.{cases_Bool, cases_lt}
 use Rattle.cards.specs.Table.{Table}
 use Rattle.tricks.specs.Rules.{our_turn, after, gains}
@@ -67,13 +67,13 @@ module _ (set : ℕ → Bool) (v : Table → ℕ) (m : ℕ) (t : Table) where
 
   -- what holds of the worst, and is kept by each member, holds of the best
   best_has : (P : ℕ → Type 0) (i : ℕ) → P (worst (our_turn t) m) → ((b c : ℕ) → c < i → set c ≡ true → P b → P (better (our_turn t) b (by_card v t c))) → P (best i)
-  best_has P i a = best_keeps P 0 i (omega arith) (subst P (sym best_none) a)
+  best_has P i a = best_keeps P 0 i (omega arith) (rw best_none a)
 
   -- no member gives better
   pub none_better : (i c : ℕ) → c < i → set c ≡ true → NoWorse (our_turn t) (best i) (by_card v t c)
   none_better i c l y =
       best_keeps (λ b. NoWorse (our_turn t) b (by_card v t c)) (c + 1) i (omega arith)
-      (subst (λ (b : ℕ). NoWorse (our_turn t) b (by_card v t c)) (sym (best_takes c y)) (better_right (our_turn t) (best c) (by_card v t c)))
+      (rw (best_takes c y) (better_right (our_turn t) (best c) (by_card v t c)))
       (λ b d _ _. better_left (our_turn t) b (by_card v t d) (by_card v t c))
 
   -- nor is the worst better
@@ -98,8 +98,8 @@ Matched set v other w t i = (c : ℕ) → c < i → set c ≡ true → (d : ℕ)
 matched_no_better : (set : ℕ → Bool) (v : Table → ℕ) (other : ℕ → Bool) (w : Table → ℕ) (m : ℕ) (t : Table) (i : ℕ) → Matched set v other w t i →
     NoWorse (our_turn t) (best_below other w m t i) (best_below set v m t i)
 matched_no_better set v other w m t i f = elim (best_given set v m t i) [
-  | inl e ↦ subst (NoWorse (our_turn t) (best_below other w m t i)) (sym e) (worst_no_better other w m t i)
-  | inr (c, l, y, e) ↦ let (d, k, z, q) = f c l y in subst (NoWorse (our_turn t) (best_below other w m t i)) (sym (e ∙ q)) (none_better other w m t i d k z)
+  | inl e ↦ rw e (worst_no_better other w m t i)
+  | inr (c, l, y, e) ↦ let (d, k, z, q) = f c l y in rw (e, q) (none_better other w m t i d k z)
 ]
 
 -- two sets that match each other have the same best

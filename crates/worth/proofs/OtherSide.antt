@@ -118,7 +118,7 @@ held_of_takes (they_play {n = k} {t = t} c o m a) n h l f =
     we_do c (turned_them t h l f.turned o) (may_there t n c h l f m) (λ d x. (both d x).0) (λ d x. (both d x).1)
 
 takes_of_held : {k : ℕ} {t : Table} → Held k t → (n : ℕ) (h : ℕ → ℕ → Bool) (l : ℕ) → Facing t n h l → Takes (n - k) (seated t h l)
-takes_of_held (out_of_cards {n = k} {t = t} e) n h l f = let z : 0 ≡ n - k = omega (arith, no_trick t n f.ours e) in subst (λ (x : ℕ). Takes x (seated t h l)) z none
+takes_of_held (out_of_cards {n = k} {t = t} e) n h l f = let z : n - k ≡ 0 = omega (arith, no_trick t n f.ours e) in rw z none
 takes_of_held (they_do {n = k} {t = t} c o m g a) n h l f =
     we_play c (turned_them t h l f.turned o) (may_there t n c h l f m)
     (takes_by t n c h l f m k g (takes_of_held a (left_after t n) _ _ (next t n c h l f m)))

@@ -1,5 +1,5 @@
 -- What our side can take, and what the others can hold it to. Assumes nothing.
-use Rattle.std.proofs.Common.{◌≡◌, ℕ, ◌-◌, ◌≤◌, subst, arith}
+use Rattle.std.proofs.Common.{◌≡◌, ℕ, ◌-◌, ◌≤◌, arith}
 use Rattle.std.proofs.lemmas.Bool.{both_ways}
 use Rattle.cards.specs.Table.{Table, Sound}
 use Rattle.tricks.specs.Rules.{our_turn, may, gains}
@@ -11,7 +11,7 @@ use Rattle.tricks.proofs.CardsLeft.{some_trick, gains_fit}
 
 -- who can take more can take fewer, and who can hold to less can hold to more
 pub takes_fewer : {k : ℕ} {t : Table} (j : ℕ) → j ≤ k → Takes k t → Takes j t
-takes_fewer j h (none {t}) = let e : 0 ≡ j = omega arith in subst (λ (x : ℕ). Takes x t) e none
+takes_fewer j h (none {t}) = let e : j ≡ 0 = omega arith in rw e none
 takes_fewer j h (we_play {t = t} c o m r) = we_play c o m (takes_fewer (j - gains t c) (omega arith) r)
 takes_fewer j h (they_play {t = t} c o m f) = they_play c o m (λ d md. takes_fewer (j - gains t d) (omega arith) (f d md))
 

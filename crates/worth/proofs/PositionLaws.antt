@@ -1,10 +1,10 @@
 -- Positions and their keys, and what the slots keep. Assumes nothing.
-use Rattle.std.proofs.Common.{◌≡◌, ℕ, zero, suc, ◌+◌, ◌%◌, ◌^◌, ◌<◌, ◌≤◌, Bool, true, false, ◌&&◌, ◌||◌, eqb, List, length, get_or, take, set, replicate, sym, refl, ap, ◌∙◌, subst, ap₂, inl, inr, arith, lit<, length-set}
+use Rattle.std.proofs.Common.{◌≡◌, ℕ, zero, suc, ◌%◌, ◌^◌, ◌<◌, ◌≤◌, Bool, true, false, ◌&&◌, ◌||◌, eqb, List, length, get_or, take, set, replicate, sym, refl, ap, ◌∙◌, inl, inr, arith, lit<, length-set}
 use Rattle.std.proofs.lemmas.Bool.{eqb-true, cases_eq, cases_lt, cases_Bool, and_from, and_parts, and_left, and_right, or_left, or_right, or_cases, both_ways}
-use Rattle.std.proofs.lemmas.List.{length-map, get_or-map, get_or_past, get_or-set_same, get_or-set_other}
+use Rattle.std.proofs.lemmas.List.{length-map, get_or_past, get_or-set_same, get_or-set_other}
 use Rattle.cards.specs.Table.{Table, deck, count}
 use Rattle.cards.specs.Bits.{bit}
-use Rattle.cards.specs.Hands.{bits_of, held as held_in, numbers}
+use Rattle.cards.specs.Hands.{bits_of, numbers}
 use Rattle.cards.specs.Seen.{seen}
 use Rattle.cards.specs.declared.board.Board.{Board}
 use Rattle.cards.specs.declared.hand.Hand.{Hand}
@@ -26,17 +26,14 @@ pub under_after : (root t u : Table) (c : ℕ) → Under root t → u ≡ after 
 unfolding after
 under_after root t u c h e =
     let go : Under root (after t c) = record { trump = h.trump; cards = λ p x held. h.cards p x (and_parts _ _ held).0 } in
-    subst (Under root) (sym e) go
+    rw e go
 
 pub under_trans : (root t u : Table) → Under root t → Under t u → Under root u
 under_trans root t u h k = record { trump = k.trump ∙ h.trump; cards = λ p c e. h.cards p c (k.cards p c e) }
 
--- positions that were just made for a root, and positions that are kept on, of the same root
-pub under_new : (root b : Board) → root ≡ b → Under (seen root) (seen b)
-under_new root b e = subst (λ (r : Board). Under (seen r) (seen b)) (sym e) (under_root (seen b))
-
+-- positions that are kept on are of the same root
 pub under_same : (p q : Positions) → SameSlots p q → (t : Table) → Under (seen p.root) t → Under (seen q.root) t
-under_same p q s t = subst (λ (b : Board). Under (seen b) t) (sym s.root)
+under_same p q s t h = rw s.root h
 
 -- ---- the key of a position stands for it
 -- a card that is held is in the hand of a player
@@ -52,18 +49,6 @@ by_held t (suc zero) c l h = or_left (t.hand 0 c || t.hand 1 c) _ (or_right _ _ 
 by_held t (suc (suc zero)) c l h = or_right (t.hand 0 c || t.hand 1 c) _ (or_left _ _ h)
 by_held t (suc (suc (suc zero))) c l h = or_right (t.hand 0 c || t.hand 1 c) _ (or_right (t.hand 2 c) _ h)
 by_held t (suc (suc (suc (suc p)))) c l h = absurd (omega arith)
-
--- the cards of the four hands
-pub held_is : (hands : List Hand) (a b c d : Hand) → length hands ≡ 4 → (x : ℕ) →
-    ((bit (get_or hands 0 a).bits x || bit (get_or hands 1 b).bits x) || (bit (get_or hands 2 c).bits x || bit (get_or hands 3 d).bits x))
-    ≡ ((held_in hands 0 x || held_in hands 1 x) || (held_in hands 2 x || held_in hands 3 x))
-held_is hands a b c d four x = ap₂ or (ap₂ or (at 0 a (omega arith)) (at 1 b (omega arith))) (ap₂ or (at 2 c (omega arith)) (at 3 d (omega arith)))
-  where
-    or : Bool → Bool → Bool
-    or p q = p || q
-
-    at : (p : ℕ) (h : Hand) → p < 4 → bit (get_or hands p h).bits x ≡ held_in hands p x
-    at p h l = ap (λ (n : ℕ). bit n x) (sym (get_or-map (λ (k : Hand). k.bits) hands p h 0 (omega arith)))
 
 -- nobody sits past the four
 nobody : (b : Board) (p c : ℕ) → 4 ≤ p → (seen b).hand p c ≡ false
@@ -105,22 +90,25 @@ position_is root b k s =
 pub true_read : (root b : Board) (keys worths : List ℕ) (i k : ℕ) → True (seen root) keys worths → i < length keys → get_or keys i 0 ≡ k →
     Starting root b k → get_or worths i 0 ≡ worth_of (seen b)
 unfolding True
-true_read root b keys worths i k h l e s = h i l ∙ ap (λ (j : ℕ). worth_of (position (seen root) j)) e ∙ ap worth_of (position_is root b k s)
+true_read root b keys worths i k h l e s = let is = h i l in let at = position_is root b k s in cc
 
 pub true_store : (root b : Board) (keys worths : List ℕ) (i k w : ℕ) → True (seen root) keys worths → i < length keys → length keys ≡ length worths →
     Starting root b k → w ≡ worth_of (seen b) → True (seen root) (set keys i k) (set worths i w)
 unfolding True
-true_store root b keys worths i k w h l same s e j m = elim (cases_eq j i) [
-  | inl q ↦
-      ap (λ (x : ℕ). get_or (set worths i w) x 0) q ∙ get_or-set_same worths i w 0 (omega arith) ∙ e ∙ ap worth_of (sym (position_is root b k s))
-      ∙ ap (λ (x : ℕ). worth_of (position (seen root) x)) (sym (get_or-set_same keys i k 0 l) ∙ ap (λ (x : ℕ). get_or (set keys i k) x 0) (sym q))
-  | inr q ↦
-      get_or-set_other worths i j w 0 q ∙ h j (omega (arith, length-set keys i k)) ∙ ap (λ (x : ℕ). worth_of (position (seen root) x)) (sym (get_or-set_other keys i j k 0 q))
-]
+true_store root b keys worths i k w h l same s e j m =
+    let at = position_is root b k s in
+    elim (cases_eq j i) [
+      | inl q ↦ let here = get_or-set_same worths i w 0 (omega arith) in let key = get_or-set_same keys i k 0 l in cc
+      | inr q ↦
+          let there = get_or-set_other worths i j w 0 q in
+          let key = get_or-set_other keys i j k 0 q in
+          let was = h j (omega (arith, length-set keys i k)) in
+          cc
+    ]
 
 -- an empty slot is that of the table with no cards
 empty_worth : (root : Table) (k : ℕ) → k ≡ 0 → worth_of (position root k) ≡ 0
-empty_worth root k e = worth_none (position root k) (ap₂ (λ (x y : ℕ). x + y) (ap₂ (λ (x y : ℕ). x + y) (gone 0) (gone 1)) (ap₂ (λ (x y : ℕ). x + y) (gone 2) (gone 3)))
+empty_worth root k e = worth_none (position root k) (omega (arith, gone 0, gone 1, gone 2, gone 3))
   where
     gone : (p : ℕ) → count ((position root k).hand p) deck ≡ 0
     gone p = count_none ((position root k).hand p) deck (λ c. and_right _ _ (ap (λ (x : ℕ). bit (x % 2 ^ deck) c) e ∙ bit_zero c))
@@ -133,6 +121,4 @@ zeros_at (suc n) (suc i) = zeros_at n i
 
 pub true_empty : (root : Table) (keys worths : List ℕ) (n m : ℕ) → keys ≡ replicate n 0 → worths ≡ replicate m 0 → True root keys worths
 unfolding True
-true_empty root keys worths n m e f i l =
-    ap (λ (xs : List ℕ). get_or xs i 0) f ∙ zeros_at m i
-    ∙ sym (empty_worth root (get_or keys i 0) (ap (λ (xs : List ℕ). get_or xs i 0) e ∙ zeros_at n i))
+true_empty root keys worths n m e f i l = rw (e, f) (zeros_at m i ∙ sym (empty_worth root (get_or (replicate n 0) i 0) (zeros_at n i)))

@@ -1,10 +1,10 @@
 -- The window so far, as the search goes through the cards, and the tables that it goes on to. Assumes nothing.
-use Rattle.std.proofs.Common.{◌≡◌, ℕ, ◌+◌, ◌-◌, ◌%◌, ◌<◌, ◌≤◌, min, Bool, true, false, eqb, [], ◌∷◌, ◌++◌, length, Some, None, Option, sym, refl, ap, ◌∙◌, subst, ap₂, arith}
-use Rattle.cards.specs.Table.{Table, pick, one, deck, Sound, cards_left}
+use Rattle.std.proofs.Common.{◌≡◌, ℕ, ◌+◌, ◌-◌, ◌<◌, ◌≤◌, min, Bool, true, false, eqb, [], ◌∷◌, ◌++◌, length, Some, None, Option, sym, refl, ap, ◌∙◌, ap₂, arith}
+use Rattle.cards.specs.Table.{Table, pick, deck, Sound, cards_left}
 use Rattle.cards.specs.Seen.{seen, tricks_left}
 use Rattle.cards.specs.declared.board.Board.{Board}
 use Rattle.cards.proofs.Order.{in_order}
-use Rattle.tricks.specs.Rules.{our_turn, may, winner, after}
+use Rattle.tricks.specs.Rules.{our_turn, winner, after}
 use Rattle.tricks.specs.Taken.{taker_of, gain_of}
 use Rattle.tricks.specs.Moves.{After}
 use Rattle.tricks.specs.declared.play.Played.{Played}
@@ -13,7 +13,7 @@ use Rattle.worth.specs.Search.{Enough, left_with, clamp, exact}
 use Rattle.tricks.proofs.CardsLeft.{cards_are, one_fewer}
 use Rattle.worth.proofs.BestLaws.{by_card, best_none, best_takes, best_skips}
 use Rattle.worth.proofs.ValueLaws.{worth_low, worth_step}
-use Rattle.worth.proofs.WindowLaws.{raised, lowered, lowered_least, clamp_one, clamp_all, clamp_within, clamp_exact, clamp_worst, narrows, found_is}
+use Rattle.worth.proofs.WindowLaws.{lowered_least, clamp_one, clamp_all, clamp_within, clamp_exact, clamp_worst, narrows, found_is}
 use Rattle.worth.specs.declared.window.Window.{Window}
 
 -- a card takes at most one trick off those left, and brings at most one
@@ -23,7 +23,7 @@ next_left (Some p) n = omega arith
 
 gain_small : (taker : Option ℕ) → gain_of taker ≤ 1
 gain_small None = omega arith
-gain_small (Some p) = elim (eqb (p % 2) 0) as (λ x. one x ≤ 1) [ true ↦ omega arith | false ↦ omega arith ]
+gain_small (Some p) = grind arith
 
 -- a worth that was found within all of the tricks left, or that is exact, is the worth
 worth_within : (b : Board) (left : ℕ) → left ≡ tricks_left b → worth_of (seen b) ≤ left
@@ -62,14 +62,14 @@ pub so_far_none : (b : Board) (n : ℕ) (w : Window) (set : ℕ → Bool) (i : �
     w.low < w.high → w.high ≤ n → SoFar (seen b) n w set i w
 so_far_none b n w set i left enough e some most = record {
   most = most;
-  worth = ap (clamp w.low w.high) (worth_step (seen b) n sound (omega (arith, cards_are (seen b) n sound, sound.short)) ∙ all ∙ ap (best_below set worth_of n (seen b)) (sym e));
+  worth =
+      (let step = worth_step (seen b) n sound (omega (arith, cards_are (seen b) n sound, sound.short)) in
+      let best = enough.best in
+      cc);
 }
   where
     sound : Sound (seen b) n
-    sound = subst (λ (m : ℕ). Sound (seen b) m) (sym left) (in_order b).sound
-
-    all : best_below (may (seen b)) worth_of n (seen b) deck ≡ best_below set worth_of n (seen b) deck
-    all = ap (λ (m : ℕ). best_below (may (seen b)) worth_of m (seen b) deck) left ∙ sym enough.best ∙ ap (λ (m : ℕ). best_below set worth_of m (seen b) deck) (sym left)
+    sound = rw left (in_order b).sound
 
 module _ (b : Board) (left : ℕ) (w : Window) (set : ℕ → Bool) where
   abbrev t : Table
@@ -90,15 +90,15 @@ module _ (b : Board) (left : ℕ) (w : Window) (set : ℕ → Bool) where
   pub so_far_takes : (i j : ℕ) (v next v' : Window) (p : Played) (ours : Bool) (gain rest found : ℕ) → i + 1 ≡ j → (set i ≡ true) × After b i p → ours ≡ our_turn t →
       left ≡ tricks_left b → rest ≡ left_with (taker_of p.taker) left → gain ≡ gain_of (taker_of p.taker) → v.low < v.high →
       next.low ≡ v.low - gain → next.high ≡ min (v.high - gain) rest → found ≡ clamp next.low next.high (worth_of (seen p.board)) →
-      v'.low ≡ raised ours v.low (clamp v.low v.high (gain + found)) → v'.high ≡ lowered ours v.high (clamp v.low v.high (gain + found)) →
+      v'.low ≡ pick ours (clamp v.low v.high (gain + found)) v.low → v'.high ≡ pick ours v.high (clamp v.low v.high (gain + found)) →
       SoFar t left w set j v → SoFar t left w set i v'
   so_far_takes i j v next v' p ours gain rest found step (y, played) o e r g some l h is low high s = record {
     most = omega (arith, lowered_least ours v.low v.high (gain + found) v.order, s.most);
     worth =
         (let takes = best_takes set worth_of left t i y in
         let narrow = narrows (our_turn t) v.low v.high (best i) (by_card worth_of t i) in
-        let low' : v'.low ≡ raised (our_turn t) v.low (clamp v.low v.high (by_card worth_of t i)) = low ∙ ap₂ (λ (x : Bool) (k : ℕ). raised x v.low k) o near in
-        let high' : v'.high ≡ lowered (our_turn t) v.high (clamp v.low v.high (by_card worth_of t i)) = high ∙ ap₂ (λ (x : Bool) (k : ℕ). lowered x v.high k) o near in
+        let low' : v'.low ≡ pick (our_turn t) (clamp v.low v.high (by_card worth_of t i)) v.low = low ∙ ap₂ (λ (x : Bool) (k : ℕ). pick x k v.low) o near in
+        let high' : v'.high ≡ pick (our_turn t) v.high (clamp v.low v.high (by_card worth_of t i)) = high ∙ ap₂ (λ (x : Bool) (k : ℕ). pick x v.high k) o near in
         cc);
   }
     where

@@ -7,11 +7,11 @@ use Rattle.tricks.specs.Plays.{Takes, none, we_play, they_play, Held, out_of_car
 use Rattle.tricks.specs.Statements.{left_after}
 use Rattle.tricks.proofs.MayLaws.{may_parts}
 use Rattle.tricks.proofs.Stays.{keeps_sound}
-use Rattle.worth.specs.Value.{worst, tricks, tricks_at, best_below, value, worth_of}
+use Rattle.worth.specs.Value.{tricks, tricks_at, best_below, value, worth_of}
 use Rattle.worth.specs.Statements.{OneWorth, ValueIsWorth}
 use Rattle.tricks.proofs.CardsLeft.{cards_are, some_trick, some_card, none_may, one_fewer, gains_fit}
 use Rattle.worth.proofs.PlayLaws.{takes_fewer, held_more, worth_once, at_most}
-use Rattle.worth.proofs.BestLaws.{by_card, NoWorse, none_better, best_given, best_same}
+use Rattle.worth.proofs.BestLaws.{by_card, none_better, best_given, best_same}
 
 -- where v is the worth after each card, the best over all cards is the worth before
 module _ (t : Table) (n : ℕ) (s : Sound t n) (v : Table → ℕ) (is : (c : ℕ) → may t c ≡ true → Worth (after t c) (v (after t c))) where
@@ -24,10 +24,10 @@ module _ (t : Table) (n : ℕ) (s : Sound t n) (v : Table → ℕ) (is : (c : �
 
   -- all is no worse than what a card gives
   ours_most : our_turn t ≡ true → (c : ℕ) → may t c ≡ true → by_card v t c ≤ all
-  ours_most o c m = subst (λ (ours : Bool). NoWorse ours all (by_card v t c)) o (none_better (may t) v n t deck c (may_parts t c m).card m)
+  ours_most o c m = rw o at (none_better (may t) v n t deck c (may_parts t c m).card m)
 
   theirs_least : our_turn t ≡ false → (c : ℕ) → may t c ≡ true → all ≤ by_card v t c
-  theirs_least o c m = subst (λ (ours : Bool). NoWorse ours all (by_card v t c)) o (none_better (may t) v n t deck c (may_parts t c m).card m)
+  theirs_least o c m = rw o at (none_better (may t) v n t deck c (may_parts t c m).card m)
 
   -- where our side is to play, it takes all by the best card, and the others hold it to that after each
   ours : our_turn t ≡ true → (c : ℕ) → may t c ≡ true → Worth t all
@@ -35,7 +35,7 @@ module _ (t : Table) (n : ℕ) (s : Sound t n) (v : Table → ℕ) (is : (c : �
     where
       takes : Takes all t
       takes = elim (best_given (may t) v n t deck) [
-        | inl e ↦ subst (λ (k : ℕ). Takes k t) (sym (e ∙ ap (λ (b : Bool). worst b n) o)) none
+        | inl e ↦ rw (e, o) none
         | inr (d, _, k, e) ↦ we_play d o k (takes_fewer (all - gains t d) (omega arith) (is d k).0)
       ]
 
@@ -48,7 +48,7 @@ module _ (t : Table) (n : ℕ) (s : Sound t n) (v : Table → ℕ) (is : (c : �
 
       held : Held all t
       held = elim (best_given (may t) v n t deck) [
-        | inl e ↦ let top : all ≡ n = e ∙ ap (λ (b : Bool). worst b n) o in hold c m (omega (arith, by_low c m))
+        | inl e ↦ let top : all ≡ n = rw (e, o) in hold c m (omega (arith, by_low c m))
         | inr (d, _, k, e) ↦ hold d k (omega arith)
       ]
 

@@ -1,6 +1,6 @@
 -- A window, from low to high, and the worths found within it. Assumes nothing.
-use Rattle.std.proofs.Common.{◌≡◌, ℕ, ◌+◌, ◌-◌, ◌<◌, ◌≤◌, min, max, Bool, true, false, ◌||◌, eqb, ltb, sym, ap, ◌∙◌, inl, inr, arith}
-use Rattle.std.proofs.lemmas.Bool.{cases_lt, ltb-true, eqb-true, eqb-false, and_parts, or_cases}
+use Rattle.std.proofs.Common.{◌≡◌, ℕ, ◌+◌, ◌-◌, ◌<◌, ◌≤◌, min, max, Bool, true, false, eqb, sym, ap, ◌∙◌, arith}
+use Rattle.std.proofs.lemmas.Bool.{ltb-true, eqb-true, eqb-false}
 use Rattle.cards.specs.Table.{pick}
 use Rattle.worth.specs.Value.{better, worst}
 use Rattle.worth.specs.Search.{clamp, exact}
@@ -8,11 +8,11 @@ use Rattle.worth.specs.declared.window.Window.{Window}
 
 -- what a window that is not closed has
 pub still_open : (w : Window) (closed : Bool) → closed ≡ eqb w.low w.high → closed ≡ false → w.low < w.high
-still_open w closed e f = omega (arith, eqb-false w.low w.high (sym e ∙ f), w.order)
+still_open w closed e f = omega (arith, eqb-false w.low w.high (sym e ∙ f))
 
 -- within one number there is but that, and within all of n tricks every worth
 pub clamp_one : (a b v : ℕ) → a ≡ b → a ≡ clamp a b v
-clamp_one a b v e = elim (cases_lt b v) [ inl l ↦ omega arith | inr l ↦ omega arith ]
+clamp_one a b v e = omega arith
 
 pub clamp_all : (n v : ℕ) → v ≤ n → clamp 0 n v ≡ v
 clamp_all n v l = omega arith
@@ -23,31 +23,20 @@ clamp_within low high v l = omega arith
 
 -- a worth that is exact is no bound
 pub clamp_exact : (low high n v w : ℕ) → w ≤ n → v ≡ clamp low high w → exact low high n v ≡ true → v ≡ w
-clamp_exact low high n v w l e x =
-    let (a, b) = and_parts (ltb low v || eqb low 0) (ltb v high || eqb high n) x in
-    elim (or_cases (ltb low v) (eqb low 0) a) [
-      | inl p ↦ elim (or_cases (ltb v high) (eqb high n) b) [ inl q ↦ omega (arith, ltb-true _ _ p, ltb-true _ _ q) | inr q ↦ omega (arith, ltb-true _ _ p, eqb-true _ _ q) ]
-      | inr p ↦ elim (or_cases (ltb v high) (eqb high n) b) [ inl q ↦ omega (arith, eqb-true _ _ p, ltb-true _ _ q) | inr q ↦ omega (arith, eqb-true _ _ p, eqb-true _ _ q) ]
-    ]
+clamp_exact low high n v w l e x = grind (arith, ltb-true, eqb-true)
 
 -- with the worst of n tricks it has come to what is reached
 pub clamp_worst : (ours : Bool) (low high n : ℕ) → low ≤ high → high ≤ n → pick ours low high ≡ clamp low high (worst ours n)
 clamp_worst true low high n l k = omega arith
 clamp_worst false low high n l k = omega arith
 
--- low and high once the nearest to what a card brings was found
-abbrev pub raised : Bool → ℕ → ℕ → ℕ
-raised ours low found = pick ours found low
-
-abbrev pub lowered : Bool → ℕ → ℕ → ℕ
-lowered ours high found = pick ours high found
-
-pub lowered_least : (ours : Bool) (low high v : ℕ) → low ≤ high → lowered ours high (clamp low high v) ≤ high
+-- our side raises low and the others lower high to the nearest of v
+pub lowered_least : (ours : Bool) (low high v : ℕ) → low ≤ high → pick ours high (clamp low high v) ≤ high
 lowered_least true low high v l = omega arith
 lowered_least false low high v l = omega arith
 
 -- a card that brings v raises low or lowers high to the nearest of v
-pub narrows : (ours : Bool) (low high b v : ℕ) → clamp low high (better ours b v) ≡ clamp (raised ours low (clamp low high v)) (lowered ours high (clamp low high v)) b
+pub narrows : (ours : Bool) (low high b v : ℕ) → clamp low high (better ours b v) ≡ clamp (pick ours (clamp low high v) low) (pick ours high (clamp low high v)) b
 narrows true low high b v = ap (max low) spread ∙ regroup (min high b) (min high v)
   where
     spread : min high (max b v) ≡ max (min high b) (min high v)

@@ -20,6 +20,7 @@ use equals::lowest::lowest_equals;
 use tricks::play::{Played, played_lawfully};
 use tricks::turn::{tricks_left, turn};
 
+// Whether our side is to play.
 fn is_ours(board: &Board) -> bool
     ensures { result ≡ our_turn (seen board.now) }
 {
@@ -49,11 +50,7 @@ fn played_of(cards: Hand, board: &Board, card: Card) -> Option<Played>
     requires { (x : ℕ) → bit cards.bits x ≡ true → may (seen board.now) x ≡ true }
     ensures { MatchOption result (bit cards.bits card.number ≡ false) (λ p. (bit cards.bits card.number ≡ true) × After board.now card.number p) }
 {
-    if cards.holds(card) {
-        Some(played_lawfully(board, card))
-    } else {
-        None
-    }
+    cards.holds(card).then(|| played_lawfully(board, card))
 }
 
 // The tricks left once a card was played.

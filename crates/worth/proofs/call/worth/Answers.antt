@@ -1,13 +1,9 @@
-use Rattle.std.proofs.Common.{ℕ, ◌≤◌, sym, ◌∙◌, subst, rules}
+use Rattle.std.proofs.Common.{sym, ◌∙◌, rules}
 use Rattle.cards.specs.Seen.{seen, tricks_left}
 use Rattle.cards.proofs.Order.{in_order}
 use Rattle.tricks.specs.Plays.{Worth}
-use Rattle.worth.proofs.PositionLaws.{under_root}
 use Rattle.worth.proofs.ValueLaws.{value_is_worth, worth_is, worth_low}
 use Rattle.worth.proofs.call.worth.Goals as goal
-
-pub worth_under-requires : goal.worth_under-requires
-worth_under-requires c = under_root (seen c.args.board.now)
 
 pub returns : goal.returns
 returns c =
@@ -16,12 +12,12 @@ returns c =
     let n = tricks_left b in
     let sound = (in_order b).sound in
     let is = c.worth_under.ensures.worth in
-    let w : Worth t c.worth_under.result = subst (Worth t) (sym is) (value_is_worth t n sound) in
+    let w : Worth t c.worth_under.result = rw is (value_is_worth t n sound) in
     record {
       lent = search rules;
       takes = w.0;
       held = w.1;
-      low = subst (λ (v : ℕ). v ≤ n) (sym is) (worth_low t n sound);
+      low = rw is (worth_low t n sound);
       only = λ x h. worth_is t n x sound h ∙ sym is;
       value = is;
       kept = search rules;

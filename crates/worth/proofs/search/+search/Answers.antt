@@ -57,7 +57,7 @@ settled t c =
       | else-suits-test w ↦ (
         ap (λ (v : Window). pick ours v.low v.high) w.open-is
             ∙ so_far_all c.args.board c.args.left c.args.window set _ _ ours (omega arith) c.is_ours-ours.ensures c.suits.invariant.so_far,
-        rw w.positions-is c.suits.invariant.same,
+        search rules,
       )
       | then-suits-test+then-loop-rank-test+in-Some-played_of+then-is_closed-2 w ↦
           let s = so_far_takes c.args.board c.args.left c.args.window set w.card_of.result.number _ w.loop-rank.open w.after-next.result w.narrowed-open.result
@@ -66,7 +66,7 @@ settled t c =
           w.narrowed-open.ensures.low w.narrowed-open.ensures.high w.loop-rank.invariant.so_far in
           let met = eqb-true w.narrowed-open.result.low w.narrowed-open.result.high (sym w.is_closed-in-Some-played_of.ensures ∙ w.if-is_closed-2.true) in (
             ap (λ (v : Window). pick ours v.low v.high) w.open-is ∙ so_far_closed c.args.board c.args.left c.args.window set _ _ ours met s,
-            rw w.positions-is (search rules),
+            search rules,
           )
     ]
 
