@@ -77,8 +77,7 @@ pub fn judge_bytes(
         worths: worths.len(),
     };
     let end = ending_of(bytes);
-    let before = end.before;
-    let board = table_after(&bytes[0..before], room)?;
+    let board = table_after(&bytes[..end.before], room)?;
     let claim = claim_from(end.side, end.tricks, tricks_left(&board))?;
     judge(&board, claim, positions, worths)
 }

@@ -66,10 +66,10 @@ fn by_row(board: &Board, row: &[u8], used: usize) -> Result<Option<Next>, Refusa
     requires { used ≤ length row.now }
     ensures { ByRow (seen board.now) row.now used result }
 {
-    if used == row.len() {
+    let Some(byte) = row.get(used) else {
         return Ok(None);
-    }
-    let step = play_at(board, row[used], used)?;
+    };
+    let step = play_at(board, *byte, used)?;
     Ok(Some(Next {
         board: step.board,
         card: step.play.card,

@@ -1,13 +1,9 @@
-use Rattle.std.proofs.Common.{◌≡◌, ℕ, ◌-◌, List, length, take, Ok, Err, sym, refl, ap, ◌∙◌, subst, arith}
+use Rattle.std.proofs.Common.{ℕ, take, Ok, Err, sym, refl, ap, ◌∙◌, subst}
 use Rattle.std.proofs.lemmas.Result.{err_from_is_err_and}
 use Rattle.claims.specs.Claimed.{Claimed}
-use Rattle.claims.specs.Bytes.{before_claim, TableTold, judging_room, before, InputTold}
+use Rattle.claims.specs.Bytes.{TableTold, judging_room, before, InputTold}
 use Rattle.claims.proofs.BytesLaws.{claim_refused, input_told}
 use Rattle.claims.proofs.bytes.judge_bytes.Goals as goal
-
--- the bytes before the claim
-before_part : (bs : List ℕ) (k : ℕ) → k ≡ length bs - 2 → take (k - 0) bs ≡ before_claim bs
-before_part bs k is = ap (λ (n : ℕ). take n bs) (let e : k - 0 ≡ length bs - 2 = omega arith in e)
 
 pub returns-in_err-board : goal.returns-in_err-board
 returns-in_err-board c =
@@ -16,7 +12,7 @@ returns-in_err-board c =
     let keys = c.args.positions.now in
     let worths = c.args.worths.now in
     let room = judging_room c.args.cards keys worths in
-    let refused = subst (λ (xs : List ℕ). TableTold xs room (Err c.in_err-board.field-0.0)) (before_part bs c.ending_of-end.result.before c.ending_of-end.ensures.before) c.in_err-board.ensures in
+    let refused = subst (λ (n : ℕ). TableTold (take n bs) room (Err c.in_err-board.field-0.0)) c.ending_of-end.ensures.before c.in_err-board.ensures in
     subst (InputTold bs room keys worths keys worths) (sym (is ∙ ap Err same)) (before refused, refl, refl)
 
 pub returns-in_err-claim : goal.returns-in_err-claim
@@ -27,7 +23,7 @@ returns-in_err-claim c =
     let keys = c.args.positions.now in
     let worths = c.args.worths.now in
     let room = judging_room c.args.cards keys worths in
-    let table = subst (λ (xs : List ℕ). TableTold xs room (Ok b)) (before_part bs c.ending_of-end.result.before c.ending_of-end.ensures.before) c.in_ok-board.ensures in
+    let table = subst (λ (n : ℕ). TableTold (take n bs) room (Ok b)) c.ending_of-end.ensures.before c.in_ok-board.ensures in
     let no = c.in_err-claim.ensures in
     subst (InputTold bs room keys worths keys worths) (sym (is ∙ ap Err same)) (
       claim_refused bs room b table.0 table.1 c.ending_of-end.result.side c.ending_of-end.result.tricks c.tricks_left.result c.ending_of-end.ensures.side c.ending_of-end.ensures.tricks c.tricks_left.ensures c.in_err-claim.field-0.0 no,
@@ -40,7 +36,7 @@ returns c =
     let bs = c.args.bytes.now in
     let b = c.in_ok-board.board in
     let room = judging_room c.args.cards c.args.positions.now c.args.worths.now in
-    let (stands, is) = subst (λ (xs : List ℕ). TableTold xs room (Ok b)) (before_part bs c.ending_of-end.result.before c.ending_of-end.ensures.before) c.in_ok-board.ensures in
+    let (stands, is) = subst (λ (n : ℕ). TableTold (take n bs) room (Ok b)) c.ending_of-end.ensures.before c.in_ok-board.ensures in
     let made = subst (λ (n : ℕ). Claimed c.ending_of-end.result.side c.ending_of-end.result.tricks n (Ok c.in_ok-claim.claim)) c.tricks_left.ensures c.in_ok-claim.ensures in
     input_told c.ending_of-end.result.side c.ending_of-end.result.tricks b c.in_ok-claim.claim made c.args.positions.now c.args.worths.now c.judge.new.positions c.judge.new.worths bs room
     c.ending_of-end.ensures.side c.ending_of-end.ensures.tricks refl refl stands is c.judge.result c.judge.ensures

@@ -1,12 +1,11 @@
-use Rattle.std.proofs.Common.{◌≡◌, ℕ, ◌≤◌, Bool, List, length, Err, sym, refl, ap, ◌∙◌, subst, arith, rules}
+use Rattle.std.proofs.Common.{◌≤◌, length, Err, sym, refl, ap, ◌∙◌, subst, arith, rules}
 use Rattle.std.proofs.lemmas.Result.{err_from_is_err_and}
 use Rattle.std.proofs.lemmas.Bool.{not-true, not-false, ltb-true, ltb-false}
-use Rattle.cards.specs.Table.{Table, cards_left}
+use Rattle.cards.specs.Table.{cards_left}
 use Rattle.cards.specs.Seen.{seen, tricks_left}
 use Rattle.cards.proofs.Order.{in_order}
 use Rattle.claims.specs.Sides.{is_ours}
 use Rattle.claims.specs.PlayOn.{Runs}
-use Rattle.claims.specs.Nexts.{CourseIs}
 use Rattle.claims.specs.PlayedOn.{no_places, no_slots, bad_card, PlayOnTold}
 use Rattle.claims.proofs.LineToldLaws.{never_refused, line_told}
 use Rattle.claims.proofs.play_on.play_on.Goals as goal
@@ -32,16 +31,12 @@ returns-in_err-course c =
     (PlayOnTold (is_ours c.args.side) (seen c.args.board.now) c.args.row.now c.args.plays.now c.args.plays.now c.args.positions.now c.args.worths.now _ _)
     (sym (is ∙ ap Err same)) (bad, refl)
 
--- the cards that the referee is given
-row_runs : (side : Bool) (t : Table) (cs ds es : List ℕ) → es ≡ ds → CourseIs side t cs ds → Runs side t cs es
-row_runs side t cs ds es same is = subst (Runs side t cs) (sym same) is.runs
-
 pub returns-in_err-table : goal.returns-in_err-table
 returns-in_err-table c =
     let b = c.args.board.now in
     let side = is_ours c.args.side in
     let roomy = ltb-false _ _ (not-true _ (sym c.if-not-has_places.ensures)) in
-    let runs = row_runs side (seen b) c.args.row.now _ _ c.as_slice.ensures c.in_ok-course.ensures.course in
+    let runs = subst (Runs side (seen b) c.args.row.now) (sym c.as_slice.ensures) c.in_ok-course.ensures.course.runs in
     absurd (never_refused side (seen b) (tricks_left b) (in_order b).sound c.args.row.now _ runs c.args.plays.now c.play_row.new.plays roomy c.in_err-table.field-0.0 c.in_err-table.ensures.right)
 
 pub returns : goal.returns
@@ -51,5 +46,6 @@ returns c =
     let is = c.in_ok-course.ensures.course in
     let roomy : cards_left (seen b) ≤ length c.args.plays.now = ltb-false _ _ (not-true _ (sym c.if-not-has_places.ensures)) in
     let told = c.in_ok-table.ensures in
-    line_told side (seen b) (tricks_left b) (in_order b).sound c.args.row.now _ (row_runs side (seen b) c.args.row.now _ _ c.as_slice.ensures is) c.args.plays.now c.play_row.new.plays roomy
+    let runs = subst (Runs side (seen b) c.args.row.now) (sym c.as_slice.ensures) is.runs in
+    line_told side (seen b) (tricks_left b) (in_order b).sound c.args.row.now _ runs c.args.plays.now c.play_row.new.plays roomy
     c.in_ok-table.table told.right _ _ _ _ c.in_ok-prepare.ensures.lent (search rules) told.value _ (ap length c.as_slice.ensures ∙ sym c.len.ensures.count) (omega (arith, is.few, c.len.ensures.count))
