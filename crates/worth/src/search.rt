@@ -50,7 +50,11 @@ fn played_of(cards: Hand, board: &Board, card: Card) -> Option<Played>
     requires { (x : ℕ) → bit cards.bits x ≡ true → may (seen board.now) x ≡ true }
     ensures { MatchOption result (bit cards.bits card.number ≡ false) (λ p. (bit cards.bits card.number ≡ true) × After board.now card.number p) }
 {
-    cards.holds(card).then(|| played_lawfully(board, card))
+    if cards.holds(card) {
+        Some(played_lawfully(board, card))
+    } else {
+        None
+    }
 }
 
 // The tricks left once a card was played.
