@@ -1,6 +1,7 @@
 // The search: the worth of a table by trying the cards, to the last.
-ghost use Rattle.std.specs.Prelude.{◌≡◌, ℕ, ◌+◌, ◌*◌, ◌<◌, ◌≤◌, true, false, MatchOption};
+ghost use Rattle.std.specs.Prelude.{◌≡◌, ℕ, ◌+◌, ◌*◌, ◌<◌, ◌≤◌, true, false, MatchOption, ◌==◌};
 ghost use Rattle.cards.specs.Bits.{bit};
+ghost use Rattle.cards.specs.Numbers.{side_number};
 ghost use Rattle.cards.specs.Seen.{seen, tricks_left};
 ghost use Rattle.tricks.specs.Rules.{our_turn, may};
 ghost use Rattle.tricks.specs.Taken.{taker_of};
@@ -21,10 +22,10 @@ use tricks::play::{Played, played_lawfully};
 use tricks::turn::{tricks_left, turn};
 
 // Whether our side is to play.
-fn is_ours(board: &Board) -> bool
-    ensures { result ≡ our_turn (seen board.now) }
+fn side_to_play(board: &Board) -> Side
+    ensures { (side_number result == 0) ≡ our_turn (seen board.now) }
 {
-    turn(board).side() == Side::Ours
+    turn(board).side()
 }
 
 // The cards to look at: of cards that are as good as each other the lowest.
@@ -79,7 +80,7 @@ fn search(board: Board, left: u8, window: Window, positions: &mut Positions<'_>)
     if let Some(worth) = positions.look_up(&board) {
         return window.nearest(worth);
     }
-    let ours = is_ours(&board);
+    let side = side_to_play(&board);
     let cards = candidates(&board);
     let mut open = window;
     'suits: for suit in (0..4u8).rev() {
@@ -89,14 +90,14 @@ fn search(board: Board, left: u8, window: Window, positions: &mut Positions<'_>)
                 let rest = left_with(played.taker, left);
                 let next = open.after(gain, rest);
                 let worth = gain + search(played.board, rest, next, positions);
-                open = open.narrowed(ours, worth);
+                open = open.narrowed(side, worth);
                 if open.is_closed() {
                     break 'suits;
                 }
             }
         }
     }
-    let worth = open.reached(ours);
+    let worth = open.reached(side);
     if window.is_exact(left, worth) {
         positions.store(&board, worth);
     }

@@ -1,7 +1,10 @@
 // The window of a search: it tells worths from low to high apart, and takes one outside for the nearest of them.
 ghost use Rattle.std.specs.Prelude.{◌≡◌, ◌-◌, ◌≤◌, min, ◌==◌};
 ghost use Rattle.cards.specs.Table.{pick};
+ghost use Rattle.cards.specs.Numbers.{side_number};
 ghost use Rattle.worth.specs.Search.{clamp, exact};
+
+use cards::player::Side;
 
 #[derive(Clone, Copy)]
 pub(crate) struct Window {
@@ -45,28 +48,30 @@ impl Window {
     }
 
     // The window once a card brings a worth: our side can choose the card and raises low, the others can and lower high.
-    pub(crate) fn narrowed(self, ours: bool, worth: u8) -> Window
-        ensures low { result.low ≡ pick ours (clamp self.low self.high worth) self.low }
-        ensures high { result.high ≡ pick ours self.high (clamp self.low self.high worth) }
+    pub(crate) fn narrowed(self, side: Side, worth: u8) -> Window
+        ensures low { result.low ≡ pick (side_number side == 0) (clamp self.low self.high worth) self.low }
+        ensures high { result.high ≡ pick (side_number side == 0) self.high (clamp self.low self.high worth) }
     {
         let found = self.nearest(worth);
-        if ours {
-            Window {
+        match side {
+            Side::Ours => Window {
                 low: found,
                 high: self.high,
-            }
-        } else {
-            Window {
+            },
+            Side::Others => Window {
                 low: self.low,
                 high: found,
-            }
+            },
         }
     }
 
     // What it comes to once every card was tried: our side has no more than low, the others allow no less than high.
-    pub(crate) fn reached(self, ours: bool) -> u8
-        ensures { result ≡ pick ours self.low self.high }
+    pub(crate) fn reached(self, side: Side) -> u8
+        ensures { result ≡ pick (side_number side == 0) self.low self.high }
     {
-        if ours { self.low } else { self.high }
+        match side {
+            Side::Ours => self.low,
+            Side::Others => self.high,
+        }
     }
 }

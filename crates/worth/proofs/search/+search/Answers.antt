@@ -1,7 +1,8 @@
-use Rattle.std.proofs.Common.{◌≡◌, ℕ, sym, refl, ◌∙◌, ap, arith, rules}
+use Rattle.std.proofs.Common.{◌≡◌, ℕ, eqb, sym, refl, ◌∙◌, ap, arith, rules}
 use Rattle.std.proofs.lemmas.Bool.{eqb-true}
 use Rattle.cards.specs.Table.{pick}
 use Rattle.cards.specs.Bits.{bit}
+use Rattle.cards.specs.Numbers.{side_number}
 use Rattle.cards.specs.Seen.{seen}
 use Rattle.worth.specs.Value.{worth_of}
 use Rattle.worth.specs.Lent.{SameSlots}
@@ -31,7 +32,7 @@ search-requires t c =
 pub loop-rank-preserved-else-is_closed-2 : goal.loop-rank-preserved-else-is_closed-2
 loop-rank-preserved-else-is_closed-2 t c =
     let s = so_far_takes c.args.board c.args.left c.args.window (bit c.candidates-cards.result.bits) c.card_of.result.number _ c.loop-rank.open c.after-next.result c.narrowed-open.result
-    c.in-Some-played_of.played c.is_ours-ours.result _ _ _ (omega (arith, c.card_of.ensures)) c.in-Some-played_of.ensures c.is_ours-ours.ensures c.requires.left
+    c.in-Some-played_of.played (eqb (side_number c.side_to_play-side.result) 0) _ _ _ (omega (arith, c.card_of.ensures)) c.in-Some-played_of.ensures c.side_to_play-side.ensures c.requires.left
     c.left_with-rest.ensures c.gain-gain.ensures c.loop-rank.invariant.apart c.after-next.ensures.low c.after-next.ensures.high c.search.ensures.worth
     c.narrowed-open.ensures.low c.narrowed-open.ensures.high c.loop-rank.invariant.so_far in
     record {
@@ -48,20 +49,20 @@ loop-rank-preserved t c =
 
 -- after the loops, however they were left
 settled : (t : ℕ) (c : goal.Left-suits t) →
-    (pick c.is_ours-ours.result c.suits-test.open.low c.suits-test.open.high ≡ clamp c.args.window.low c.args.window.high (worth_of (seen c.args.board)))
+    (pick (eqb (side_number c.side_to_play-side.result) 0) c.suits-test.open.low c.suits-test.open.high ≡ clamp c.args.window.low c.args.window.high (worth_of (seen c.args.board)))
     × SameSlots c.args.positions.now c.suits-test.positions
 settled t c =
-    let ours = c.is_ours-ours.result in
+    let ours = (eqb (side_number c.side_to_play-side.result) 0) in
     let set = bit c.candidates-cards.result.bits in
     elim c.suits-test.branch [
       | else-suits-test w ↦ (
         ap (λ (v : Window). pick ours v.low v.high) w.open-is
-            ∙ so_far_all c.args.board c.args.left c.args.window set _ _ ours (omega arith) c.is_ours-ours.ensures c.suits.invariant.so_far,
+            ∙ so_far_all c.args.board c.args.left c.args.window set _ _ ours (omega arith) c.side_to_play-side.ensures c.suits.invariant.so_far,
         search rules,
       )
       | then-suits-test+then-loop-rank-test+in-Some-played_of+then-is_closed-2 w ↦
           let s = so_far_takes c.args.board c.args.left c.args.window set w.card_of.result.number _ w.loop-rank.open w.after-next.result w.narrowed-open.result
-          w.in-Some-played_of.played ours _ _ _ (omega (arith, w.card_of.ensures)) w.in-Some-played_of.ensures c.is_ours-ours.ensures c.requires.left
+          w.in-Some-played_of.played ours _ _ _ (omega (arith, w.card_of.ensures)) w.in-Some-played_of.ensures c.side_to_play-side.ensures c.requires.left
           w.left_with-rest.ensures w.gain-gain.ensures w.loop-rank.invariant.apart w.after-next.ensures.low w.after-next.ensures.high w.search.ensures.worth
           w.narrowed-open.ensures.low w.narrowed-open.ensures.high w.loop-rank.invariant.so_far in
           let met = eqb-true w.narrowed-open.result.low w.narrowed-open.result.high (sym w.is_closed-in-Some-played_of.ensures ∙ w.if-is_closed-2.true) in (
