@@ -12,7 +12,7 @@ pub struct Board {
     // of players 0 to 3
     pub hands: [Hand; 4],
     pub leader: Player,
-    // the first `played` of these lie on the table, from the leader on
+    // the first `played` of these lie on the table, from the leader on; an array with its count beside it, as a table is settled to have
     pub trick: [Card; 3],
     pub played: u8,
     ghost seats: { length hands ≡ 4 },

@@ -32,7 +32,7 @@ pub enum Trump {
     NoTrump,
 }
 
-// The number of the card with these numbers for suit and rank.
+// The number of the card with these numbers for suit and rank, for who has numbers and no card yet: its signature is settled.
 pub fn card_number(suit: u8, rank: u8) -> u16
     ensures { result ≡ 13 * suit + rank }
 {

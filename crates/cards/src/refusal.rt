@@ -50,6 +50,7 @@ impl Lent {
     }
 }
 
+// A refusal is told by two numbers, neither of which says it alone, so these are no conversions.
 impl Refusal {
     // The number by which it is told.
     pub fn number(self) -> u8

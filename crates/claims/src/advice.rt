@@ -1,5 +1,5 @@
 // The card to play: the lowest that keeps the worth.
-ghost use Rattle.std.specs.Prelude.{◌≡◌};
+ghost use Rattle.std.specs.Prelude.{◌≡◌, ◌==◌};
 ghost use Rattle.cards.specs.Seen.{seen, tricks_left};
 ghost use Rattle.equals.specs.Covered.{card_told};
 ghost use Rattle.worth.specs.Positions.{Under};
@@ -22,7 +22,13 @@ pub(crate) fn advice_under(board: &Board, positions: &mut Positions<'_>) -> Opti
     ensures same { SameSlots positions.old positions.new }
 {
     let worth = worth_under(board, positions);
-    lowest_card(board, positions, |tricks| tricks == worth)
+    lowest_card(
+        board,
+        positions,
+        |tricks|
+            ensures { result ≡ (tricks == worth) }
+        { tricks == worth },
+    )
 }
 
 // The advice for whoever is to play, with memory that is lent for the positions; none if nobody has a card.

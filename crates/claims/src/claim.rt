@@ -34,7 +34,7 @@ pub(crate) fn side_of(number: u8) -> Result<Side, Refusal>
     Side::try_from(number).map_err(|_| Refusal::Claim)
 }
 
-// The claim of a side, 0 for ours and 1 for the others.
+// The claim of a side, 0 for ours and 1 for the others: from numbers, as an input has them, and not from a `Side`, which would ask more of callers.
 pub fn claim_from(side: u8, tricks: u8, left: u8) -> Result<Claim, Refusal>
     ensures { Claimed side tricks left result }
 {

@@ -1,9 +1,10 @@
 // The lowest card that makes a claim fail.
-ghost use Rattle.std.specs.Prelude.{◌≡◌};
+ghost use Rattle.std.specs.Prelude.{◌≡◌, not};
 ghost use Rattle.cards.specs.Seen.{seen};
 ghost use Rattle.equals.specs.Covered.{card_told};
 ghost use Rattle.worth.specs.Positions.{Under};
 ghost use Rattle.worth.specs.Lent.{SameSlots};
+ghost use Rattle.claims.specs.Claims.{upheld};
 ghost use Rattle.claims.specs.Failing.{failing};
 ghost use Rattle.claims.specs.Claimed.{claims_side, claims_tricks};
 
@@ -24,5 +25,11 @@ pub(crate) fn failing_under(
     ensures card { card_told result ≡ failing (claims_side claim) left (claims_tricks claim) (seen board.now) }
     ensures same { SameSlots positions.old positions.new }
 {
-    lowest_card(board, positions, |worth| !upholds(claim, left, worth))
+    lowest_card(
+        board,
+        positions,
+        |worth|
+            ensures { result ≡ not (upheld (claims_side claim) left (claims_tricks claim) worth) }
+        { !upholds(claim, left, worth) },
+    )
 }

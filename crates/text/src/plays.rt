@@ -21,7 +21,7 @@ impl fmt::Display for Shown<Play> {
     }
 }
 
-// Where a trick ended, a line for it, a newline before it.
+// Where a trick ended, a line for it, a newline before it. That one more trick can be counted stays a clause here and below: a type for such counts would say no more.
 fn show_trick<W: fmt::Write>(
     before: usize,
     taker: Option<Player>,

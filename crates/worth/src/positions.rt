@@ -85,6 +85,7 @@ pub fn clear(root: &Board, keys: &mut [u64], worths: &mut [u8])
 
 // The positions that a search from a root keeps: those at the start of a trick, each with its worth, in two lent slices, one slot each.
 // Its invariant says that there are slots and that what they keep is true, so no literal and no write can make one that is not.
+// Two slices side by side, since callers lend them so. That a board came of the root is a fact about both, and stays a clause of each method.
 #[derive(Drop)]
 pub struct Positions<'a> {
     pub root: Board,

@@ -35,7 +35,7 @@ fn candidates(board: &Board) -> Hand
     lowest_equals(board)
 }
 
-// The card of a suit and a rank by their numbers.
+// The card of a suit and a rank by their numbers: the loops count these down, and which cards were tried is said by them.
 fn card_of(suit: u8, rank: u8) -> Card
     requires suit { suit < 4 }
     requires rank { rank < 13 }
