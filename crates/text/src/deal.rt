@@ -13,7 +13,7 @@ use cards::card::{Card, Trump};
 use cards::hand::Hand;
 use cards::player::Player;
 use std::fmt;
-use tricks::turn::hand_of;
+use tricks::turn::{current_trick, hand_of};
 
 // The letter of the suit that is trump, or `none`.
 fn trump_word(trump: Trump) -> &'static str
@@ -34,20 +34,13 @@ impl fmt::Display for Shown<Trump> {
     }
 }
 
-// The cards that lie on the table.
-fn trick_of(board: &Board) -> &[Card]
-    ensures { numbers result.now ≡ (seen board.now).trick }
-{
-    &board.trick[..board.played as usize]
-}
-
 // The line of trump, of who leads and of the trick.
 fn show_first_line<W: fmt::Write>(board: &Board, f: &mut fmt::Formatter<W>) -> fmt::Result
     ensures { WritesOnOk W.write_str_gives f.old result (first_line (seen board.now)) f.new }
 {
     let trump = Shown(board.trump);
     let leader = board.leader.seat;
-    let trick = Shown(trick_of(board));
+    let trick = Shown(current_trick(board));
     write!(f, "{trump}, leader {leader}, trick {trick}")
 }
 

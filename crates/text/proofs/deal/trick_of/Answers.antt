@@ -1,6 +1,0 @@
-use Rattle.std.proofs.Common.{sym}
-use Rattle.std.proofs.lemmas.List.{take-map}
-use Rattle.text.proofs.deal.trick_of.Goals as goal
-
-pub returns : goal.returns
-returns c = sym (take-map (λ card. card.number) c.args.board.now.played c.args.board.now.trick)
