@@ -9,10 +9,10 @@ use crate::player::Player;
 #[derive(Clone, Copy)]
 pub struct Board {
     pub trump: Trump,
-    // of players 0 to 3
+    // of players 0 to 3: a table is settled to be one value with arrays of hands and of the trick
     pub hands: [Hand; 4],
     pub leader: Player,
-    // the first `played` of these lie on the table, from the leader on; an array with its count beside it, as a table is settled to have
+    // the first `played` of these lie on the table, from the leader on
     pub trick: [Card; 3],
     pub played: u8,
     ghost seats: { length hands ≡ 4 },

@@ -79,7 +79,7 @@ impl Hand {
         self.holds(card) && card.is_of(suit)
     }
 
-    // Whether it has a card of a suit, looked up card by card.
+    // Whether it has a card of a suit, looked up card by card; by a loop, since `any` would ask its closure of every number, and there are cards of 52 only.
     pub fn has_suit(self, suit: Suit) -> bool
         ensures { result ≡ has_suit (bit self.bits) (suit_number suit) deck }
     {

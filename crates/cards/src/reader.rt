@@ -185,7 +185,8 @@ fn board_in(layout: &Layout<'_>, trump: Trump, played: u8) -> Result<Board, Refu
     })
 }
 
-// The checks in their order, of a deal that so many bytes have to follow.
+// The checks in their order, of a deal that so many bytes have to follow. Each hands on its value or returns the refusal by `let .. else`, as is settled,
+// but for those that know the place themselves.
 fn checked_deal(bytes: &[u8], room: Room, follow: u8) -> Result<Deal, Refusal>
     ensures value { told result ≡ reading follow bytes.now room }
     ensures within { IfOk result (λ d. d.size + follow ≤ length bytes.now) }
