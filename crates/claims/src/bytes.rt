@@ -50,6 +50,7 @@ fn table_after(bytes: &[u8], room: Room) -> Result<Board, Refusal>
     ensures { TableTold bytes.now room result }
 {
     let deal = read_deal(bytes, room, 0)?;
+    // places to lend to the referee
     let unplayed = Play {
         player: Player { seat: 0 },
         card: Card { number: 0 },

@@ -83,6 +83,7 @@ fn search(board: Board, left: u8, window: Window, positions: &mut Positions<'_>)
     let side = side_to_play(&board);
     let cards = candidates(&board);
     let mut open = window;
+    // suits and cards in two loops, left by a label, as is settled; the highest first
     'suits: for suit in (0..4u8).rev() {
         for rank in (0..13u8).rev() {
             if let Some(played) = played_of(cards, &board, card_of(suit, rank)) {
