@@ -84,7 +84,7 @@ fn reply_to(board: &Board, card: Card, claim: Claim, positions: &mut Positions<'
     Some(Reply { card, reply })
 }
 
-// The replies to all cards that may be played, lowest first. A hand has at most eight cards; by a loop for the same reason as `lowest_card`.
+// The replies to all cards that may be played, lowest first; by a loop for the same reason as `lowest_card`. A hand has at most eight cards.
 pub(crate) fn replies_under(
     board: &Board,
     claim: Claim,
