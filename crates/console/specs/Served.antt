@@ -1,5 +1,5 @@
 -- The argument of a program, and its end. Assumes nothing: these are definitions.
-use Rattle.std.specs.Prelude.{◌≡◌, ℕ, ◌≤◌, ◌⊎◌, List, Option}
+use Rattle.std.specs.Prelude.{◌≡◌, ℕ, ◌≤◌, List, Option, Result, MatchResult}
 use Rattle.std.specs.Option.{SomeIff}
 use Rattle.std.specs.Str.Parse.{IsNumeral, digits_value, without_leading_plus}
 
@@ -11,6 +11,6 @@ said w = digits_value 10 (without_leading_plus w)
 abbrev pub Served : List ℕ → Option ℕ → Type 0
 Served w r = SomeIff r (IsNumeral 10 (without_leading_plus w) × (1 ≤ said w) × (said w ≤ 8)) (said w)
 
--- with which status a program ends: 0 after a good run for 1 to 8 cards, and else 1
-abbrev pub Ended : (ℕ → Type 0) → ℕ → Type 0
-Ended ran status = ((status ≡ 0) × ((n : ℕ) × (1 ≤ n) × (n ≤ 8) × ran n)) ⊎ (status ≡ 1)
+-- with which status a program ends that is asked to serve so many cards: 0 after a good run for them, and 1 where its argument asks for none
+abbrev pub Ended : {E : Type 0} → Result ℕ E → (ℕ → Type 0) → ℕ → Type 0
+Ended asked ran status = MatchResult asked (λ n. (status ≡ 0) × ran n) (λ _. status ≡ 1)

@@ -1,4 +1,4 @@
-// What both programs do around the answer: their argument, their input, and the memory for positions.
+// What both programs do around the answer: their argument, their input, the memory for positions, and their exit status.
 #![tactic(auto)]
 
 ghost use Rattle.std.specs.Prelude.{◌≡◌, ℕ, ◌+◌, ◌*◌, ◌^◌, ◌≤◌, min, ◌⊎◌, Ok, IfSome, IfOk, vec_len};
@@ -62,16 +62,17 @@ pub fn show_usage(rt: &HostRuntime, program: &str) -> anyhow::Result<()> {
     Ok(())
 }
 
-// What a program does: it runs for the cards that its argument says, or shows its usage and fails.
+// What a program does with the most cards that its argument asks for: it runs for them, or shows its usage and fails.
 pub fn serve<F: FnOnce(&HostRuntime, u8) -> anyhow::Result<()>>(
     rt: &HostRuntime,
     program: &str,
+    asked: anyhow::Result<u8>,
     run: F,
 ) -> anyhow::Result<ExitCode>
-    requires { (cards : ℕ) → 1 ≤ cards → cards ≤ 8 → F.pre run rt cards }
-    ensures { IfOk result (λ code. Ended (λ cards. F.post run rt.entry cards (Ok tt)) (exit_status code)) }
+    requires { IfOk asked (F.pre run rt) }
+    ensures { IfOk result (λ code. Ended asked (λ cards. F.post run rt.entry cards (Ok tt)) (exit_status code)) }
 {
-    let Ok(cards) = most_cards(rt) else {
+    let Ok(cards) = asked else {
         show_usage(rt, program)?;
         return Ok(ExitCode::FAILURE);
     };

@@ -2,7 +2,7 @@
 #![tactic(auto)]
 
 use claims::bytes::judge_bytes;
-use console::{lend_slots, read_input, serve};
+use console::{lend_slots, most_cards, read_input, serve};
 use std::process::ExitCode;
 use text::Shown;
 
@@ -18,5 +18,5 @@ fn run(rt: &HostRuntime, cards: u8) -> anyhow::Result<()> {
 }
 
 fn main(rt: HostRuntime) -> anyhow::Result<ExitCode> {
-    serve(&rt, "judge", run)
+    serve(&rt, "judge", most_cards(&rt), run)
 }

@@ -4,7 +4,7 @@
 use cards::card::Card;
 use cards::player::Player;
 use claims::bytes::play_bytes;
-use console::{lend_slots, read_input, serve};
+use console::{lend_slots, most_cards, read_input, serve};
 use referee::row::Play;
 use std::process::ExitCode;
 use text::Shown;
@@ -34,5 +34,5 @@ fn run(rt: &HostRuntime, cards: u8) -> anyhow::Result<()> {
 }
 
 fn main(rt: HostRuntime) -> anyhow::Result<ExitCode> {
-    serve(&rt, "play", run)
+    serve(&rt, "play", most_cards(&rt), run)
 }

@@ -21,7 +21,7 @@ use equals::lowest::lowest_equals;
 use tricks::play::{Played, played_lawfully};
 use tricks::turn::{tricks_left, turn};
 
-// Whether our side is to play.
+// The side that is to play.
 fn side_to_play(board: &Board) -> Side
     ensures { (side_number result == 0) ≡ our_turn (seen board.now) }
 {
