@@ -26,6 +26,7 @@ fn time_table(rt: &HostRuntime, board: &Board, cards: u8) -> anyhow::Result<()> 
 }
 
 fn time_deal(rt: &HostRuntime, deal: &[u8]) -> anyhow::Result<()> {
+    // no memory is lent here: only the table is wanted
     let room = Room {
         cards: 8,
         plays: 32,

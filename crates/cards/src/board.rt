@@ -9,7 +9,7 @@ use crate::player::Player;
 #[derive(Clone, Copy)]
 pub struct Board {
     pub trump: Trump,
-    // of players 0 to 3: a table is settled to be one value with arrays of hands and of the trick
+    // of players 0 to 3; that a table is one value with arrays for the hands and the trick is settled
     pub hands: [Hand; 4],
     pub leader: Player,
     // the first `played` of these lie on the table, from the leader on

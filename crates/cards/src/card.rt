@@ -25,14 +25,14 @@ pub struct Card {
     ghost low: { number < deck },
 }
 
-// The suit that is trump, if one is. No `Option<Suit>`: no trump is a word of the game, with a number and a text of its own.
+// The suit that is trump, if one is. Not an `Option<Suit>`: no trump is a word of the game, with a number and a text of its own.
 #[derive(Clone, Copy, PartialEq, Eq)]
 pub enum Trump {
     Of(Suit),
     NoTrump,
 }
 
-// The number of the card with these numbers for suit and rank, for who has numbers and no card yet: its signature is settled.
+// The number of the card with these numbers for suit and rank, for callers that have numbers and no card yet; its signature is settled.
 pub fn card_number(suit: u8, rank: u8) -> u16
     ensures { result ≡ 13 * suit + rank }
 {

@@ -3,7 +3,7 @@ ghost use Rattle.std.specs.Prelude.{◌≡◌, ◌<◌, ◌≤◌, ◌↔◌, �
 
 use std::alloc::AllocError;
 
-// At most `N` values: the first `len` items.
+// At most `N` values: the first `len` of the items.
 pub struct Few<T, const N: usize> {
     pub items: [T; N],
     pub len: usize,

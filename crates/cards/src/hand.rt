@@ -79,7 +79,7 @@ impl Hand {
         self.holds(card) && card.is_of(suit)
     }
 
-    // Whether it has a card of a suit, looked up card by card; by a loop, since `any` would ask its closure of every number, and there are cards of 52 only.
+    // Whether it has a card of a suit, looked up card by card. By a loop: the closure of an `any` would need a clause of its own, that its number is a card's.
     pub fn has_suit(self, suit: Suit) -> bool
         ensures { result ≡ has_suit (bit self.bits) (suit_number suit) deck }
     {

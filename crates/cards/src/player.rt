@@ -18,6 +18,7 @@ pub enum Side {
     Others,
 }
 
+// As of a card: one text for both would take a macro.
 impl TryFrom<u8> for Player {
     type Error = OutOfRange;
 

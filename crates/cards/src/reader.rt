@@ -33,18 +33,14 @@ pub fn byte_at(bytes: &[u8], place: usize) -> u8
 fn trick_size(number: u8) -> Option<u8>
     ensures { MatchOption result (3 < number) (λ n. (n ≡ number) × (n ≤ 3)) }
 {
-    Some(number).filter(|size| *size <= 3)
+    (number <= 3).then_some(number)
 }
 
 // The place after the deal, if the bytes reach to it and past what has to follow.
 fn whole(end: usize, follow: u8, size: usize) -> Option<usize>
     ensures { MatchOption result (size < end + follow) (λ n. (n ≡ end) × (end + follow ≤ size)) }
 {
-    if end <= size && follow as usize <= size - end {
-        Some(end)
-    } else {
-        None
-    }
+    (end <= size && follow as usize <= size - end).then_some(end)
 }
 
 // The card of a number, if there is one and it is in neither set.
@@ -87,7 +83,7 @@ fn hands_in(layout: &Layout<'_>, trick: Hand) -> Result<[Hand; 4], Refusal>
     requires trick { (x : ℕ) → bit trick.bits x ≡ has (trick_of layout.now.bytes.now) x }
     ensures { Says 4 result (first (hand_fault layout.now.bytes.now) 4) (λ hands. ((taken : ℕ) × Dealt layout.now.bytes.now 4 (bits_of hands) taken)) }
 {
-    let mut hands = [Hand { bits: 0 }; 4];
+    let mut hands = [Hand::empty(); 4];
     let mut taken = trick;
     for (p, start) in layout.starts.iter().enumerate() {
         let cards = part(
@@ -185,8 +181,8 @@ fn board_in(layout: &Layout<'_>, trump: Trump, played: u8) -> Result<Board, Refu
     })
 }
 
-// The checks in their order, of a deal that so many bytes have to follow. Each hands on its value or returns the refusal by `let .. else`, as is settled,
-// but for those that know the place themselves.
+// The checks in their order, of a deal that so many bytes have to follow. Each hands its value on or refuses by `let .. else`, as is settled;
+// those that know the place themselves answer a `Result`. Apart from `read_deal`, which proves once that the refusal is the first.
 fn checked_deal(bytes: &[u8], room: Room, follow: u8) -> Result<Deal, Refusal>
     ensures value { told result ≡ reading follow bytes.now room }
     ensures within { IfOk result (λ d. d.size + follow ≤ length bytes.now) }

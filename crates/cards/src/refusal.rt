@@ -1,8 +1,8 @@
 // Why an input is turned away. Each case holds what its place needs: of a byte in a deal, or of a card in a row.
 ghost use Rattle.std.specs.Prelude.{◌≡◌};
-ghost use Rattle.cards.specs.Refusals.{lent_place, number_of, place_of};
+ghost use Rattle.cards.specs.Refusals.{number_of, place_of};
 
-// Lent memory that is too short.
+// Lent memory that is too short, in the order of the places by which it is told.
 #[derive(Clone, Copy)]
 pub enum Lent {
     Hands,
@@ -35,19 +35,6 @@ pub enum Refusal {
     // a claim of more tricks than are left, or by no side
     Claim,
     Short(Lent),
-}
-
-impl Lent {
-    // The place by which it is told.
-    fn place(self) -> usize
-        ensures { result ≡ lent_place self }
-    {
-        match self {
-            Lent::Hands => 0,
-            Lent::Plays => 1,
-            Lent::Positions => 2,
-        }
-    }
 }
 
 // A refusal is told by two numbers, neither of which says it alone, so these are no conversions.
@@ -86,7 +73,7 @@ impl Refusal {
             | Refusal::NotHeld(place)
             | Refusal::Revoke(place)
             | Refusal::AfterLast(place) => place,
-            Refusal::Short(lent) => lent.place(),
+            Refusal::Short(lent) => lent as usize,
         }
     }
 }

@@ -33,9 +33,9 @@ module _ (side : Bool) (n k : ℕ) (t : Table) where
     unfolding by_tests
     judged_replies row e o f = ap₂ replies worth f ∙ sym (judging_by false true (sym e ∙ test_is) (sym o))
 
-    pub judged_fails : (card : Option ℕ) → upheld side left k w ≡ false → own_turn side t ≡ false → card ≡ failing side left k t → fails_by w card ≡ judging side n k t
+    pub judged_fails : (card : Option ℕ) → upheld side left k w ≡ false → own_turn side t ≡ false → card ≡ failing side n k t → fails_by w card ≡ judging side n k t
     unfolding by_tests
-    judged_fails card e o f = ap₂ fails_by worth (f ∙ ap (λ (i : ℕ). failing side i k t) same) ∙ sym (judging_by false false (sym e ∙ test_is) (sym o))
+    judged_fails card e o f = ap₂ fails_by worth f ∙ sym (judging_by false false (sym e ∙ test_is) (sym o))
 
   -- it upholds what is upheld, and tells the worth
   upheld_by : (u own : Bool) → is_upheld (by_tests u own) ≡ u

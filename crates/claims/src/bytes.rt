@@ -41,8 +41,7 @@ fn rest_from(bytes: &[u8], place: usize) -> &[u8]
     requires { place ≤ length bytes.now }
     ensures { result.now ≡ drop place bytes.now }
 {
-    let (_, rest) = bytes.split_at(place);
-    rest
+    &bytes[place..]
 }
 
 // The table after the row that follows a deal.

@@ -8,7 +8,7 @@ ghost use Rattle.claims.specs.SideBytes.{SideTold};
 use cards::player::Side;
 use cards::refusal::Refusal;
 
-// A number of the tricks left, for our side or for the others.
+// A number of the tricks left, for our side or for the others; an enum by side, as is settled.
 #[derive(Clone, Copy)]
 pub enum Claim {
     Ours(u8),

@@ -56,7 +56,7 @@ fn judge_under(board: &Board, claim: Claim, positions: &mut Positions<'_>) -> Ju
         let replies = replies_under(board, claim, positions);
         return Judgement::Replies { worth, replies };
     }
-    let card = failing_under(board, claim, left, positions);
+    let card = failing_under(board, claim, positions);
     Judgement::Fails { worth, card }
 }
 

@@ -34,6 +34,7 @@ pub struct Line {
 struct Next {
     board: Board,
     card: Card,
+    // counted, since a refusal tells its place in the row
     used: usize,
 }
 

@@ -22,7 +22,6 @@ use cards::card::Card;
 use cards::few::Few;
 use cards::player::Player;
 use tricks::play::play;
-use tricks::turn::tricks_left;
 use worth::positions::Positions;
 
 // A card of the side that claims, and the other side's card at its next turn, if it has one.
@@ -39,7 +38,7 @@ pub(crate) fn is_claimers_turn(claim: Claim, board: &Board) -> bool
     is_turn_of(claim.side(), board)
 }
 
-// The tricks of its claim that a side has once this player took a trick: one or none.
+// The tricks of its claim that a side has once this player took a trick: one or none. Beside `Played::gain`, which is in the search's inner loop.
 fn taken(claim: Claim, taker: Option<Player>) -> u8
     ensures { result ≡ side_takes (claims_side claim) (taker_of taker) }
 {
@@ -64,12 +63,12 @@ fn next_failing(board: &Board, claim: Claim, positions: &mut Positions<'_>) -> O
     ensures same { SameSlots positions.old positions.new }
 {
     if !is_claimers_turn(claim, board) {
-        return failing_under(board, claim, tricks_left(board), positions);
+        return failing_under(board, claim, positions);
     }
     let lead = advice_under(board, positions)?;
     let led = play(board, lead)?;
     let rest = claim_less(claim, taken(claim, led.taker));
-    failing_under(&led.board, rest, tricks_left(&led.board), positions)
+    failing_under(&led.board, rest, positions)
 }
 
 // A card of the side that claims and the reply to it, if the card may be played.

@@ -32,8 +32,8 @@ pub(crate) fn worth_by(board: &Board, card: Card, positions: &mut Positions<'_>)
     Some(played.gain() + rest)
 }
 
-// The lowest card that may be played and whose worth passes a test. By a loop, since a card that is tried writes to the positions,
-// and a closure that writes tells its caller nothing of it.
+// The lowest card that may be played and whose worth passes a test. By a loop: to try a card writes to the positions,
+// and of a closure that writes at each call the caller does not learn what it returned.
 pub(crate) fn lowest_card<F: Fn(u8) -> bool>(
     board: &Board,
     positions: &mut Positions<'_>,

@@ -48,6 +48,7 @@ fn held_or_lying(own: Hand, others: Hand, lying: Hand) -> Hand
 }
 
 // The cards in play, as the player to play sees them: those that are held or lie on the table, and so not those of finished tricks.
+// What it says of covered cards is in `lowest`.
 #[derive(Clone, Copy)]
 pub(crate) struct InPlay {
     // of these, what it holds itself

@@ -21,6 +21,7 @@ fn run(rt: &HostRuntime, cards: u8) -> anyhow::Result<()> {
     let input = read_input(rt)?;
     let mut positions = lend_slots(rt.alloc(), cards, 0u64);
     let mut worths = lend_slots(rt.alloc(), cards, 0u8);
+    // places to lend
     let unplayed = Play {
         player: Player { seat: 0 },
         card: Card { number: 0 },

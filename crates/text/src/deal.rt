@@ -2,14 +2,14 @@
 ghost use Rattle.std.specs.Prelude.{◌≡◌, Some};
 ghost use Rattle.std.specs.Fmt.{WritesOnOk};
 ghost use Rattle.cards.specs.Numbers.{trump_number};
-ghost use Rattle.cards.specs.Hands.{numbers, held};
+ghost use Rattle.cards.specs.Hands.{held};
 ghost use Rattle.cards.specs.Seen.{seen};
 ghost use Rattle.text.specs.Deals.{trump_word, trump_text, first_line, hand_lines, table_text};
 
 use crate::Shown;
 use crate::card::suit_letter;
 use cards::board::Board;
-use cards::card::{Card, Trump};
+use cards::card::Trump;
 use cards::hand::Hand;
 use cards::player::Player;
 use std::fmt;

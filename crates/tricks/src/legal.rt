@@ -19,7 +19,7 @@ fn led(board: &Board) -> Option<Suit>
     current_trick(board).first().map(|card| card.suit())
 }
 
-// Whether a card of a hand goes on a trick: it is of the suit led, or the hand has none of that.
+// Whether a card of a hand goes on a trick: it is of the suit led, or the hand has none of that. Told of one card without those of all, as it is asked often.
 fn is_playable(hand: Hand, led: Option<Suit>, card: Card) -> bool
     ensures { result ≡ (bit hand.bits card.number && goes (bit hand.bits) (suit_told led) card.number) }
 {
@@ -36,12 +36,7 @@ pub fn may_play(board: &Board, card: Card) -> bool
 fn suit_mask(suit: Suit) -> u64
     ensures { result ≡ 8191 * 2 ^ (13 * suit_number suit) }
 {
-    match suit {
-        Suit::Clubs => 0x1fff,
-        Suit::Diamonds => 0x1fff << 13,
-        Suit::Hearts => 0x1fff << 26,
-        Suit::Spades => 0x1fff << 39,
-    }
+    0x1fff << (13 * suit as u8)
 }
 
 // The cards of a suit.

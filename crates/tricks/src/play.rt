@@ -59,7 +59,7 @@ fn next_leader(leader: Player, taker: Option<Player>) -> Player
     taker.unwrap_or(leader)
 }
 
-// The trick with a card more; a fourth finds no place, and lies there no more.
+// The trick with a card more; a fourth has no place, since it ends the trick.
 #[tactic(auto, using(crate::proofs::BoardLaws::trick_more))]
 fn trick_with(trick: [Card; 3], played: u8, card: Card) -> [Card; 3]
     ensures { played < 3 → take (played + 1) (numbers result) ≡ take played (numbers trick) ++ (card.number ∷ []) }

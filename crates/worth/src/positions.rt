@@ -62,7 +62,7 @@ fn starts_trick(board: &Board) -> bool
     board.played == 0
 }
 
-// Puts a key and a worth in a slot, in place of what was there.
+// Puts a key and a worth in a slot, in place of what was there; both in one call, since between the two writes the slot need not be true.
 fn put(keys: &mut [u64], worths: &mut [u8], slot: usize, key: u64, worth: u8)
     requires some { slot < length keys.old }
     requires same { length keys.old ≡ length worths.old }
@@ -85,7 +85,9 @@ pub fn clear(root: &Board, keys: &mut [u64], worths: &mut [u8])
 
 // The positions that a search from a root keeps: those at the start of a trick, each with its worth, in two lent slices, one slot each.
 // Its invariant says that there are slots and that what they keep is true, so no literal and no write can make one that is not.
-// Two slices side by side, since callers lend them so. That a board came of the root is a fact about both, and stays a clause of each method.
+// Two slices side by side, since callers lend them so. That a board came of the root is a fact about both, and that a search keeps
+// root and slices is one of before and after; each stays a clause of each function. Callers make it by a literal after `prepare`:
+// a constructor would have to say of both lent slices what they hold where it refuses.
 #[derive(Drop)]
 pub struct Positions<'a> {
     pub root: Board,

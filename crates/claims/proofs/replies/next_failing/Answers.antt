@@ -1,4 +1,4 @@
-use Rattle.std.proofs.Common.{ℕ, Some, None, sym, ap, ◌∙◌}
+use Rattle.std.proofs.Common.{Some, None, sym, refl, ap, ◌∙◌}
 use Rattle.std.proofs.lemmas.Bool.{both_ways}
 use Rattle.cards.specs.Seen.{seen, tricks_left}
 use Rattle.equals.specs.Covered.{card_told}
@@ -14,7 +14,7 @@ returns-then-not-is_claimers_turn-clause-card c =
     let b = c.args.board.now in
     let side = claims_side c.args.claim in
     let k = claims_tricks c.args.claim in
-    c.failing_under.ensures.card ∙ ap (λ (n : ℕ). failing side n k (seen b)) c.tricks_left.ensures
+    c.failing_under.ensures.card
     ∙ sym (next_here side (tricks_left b) k (seen b) (sym c.is_claimers_turn.ensures ∙ c.if-not-is_claimers_turn.true))
 
 pub returns-in_err-lead-clause-card : goal.returns-in_err-lead-clause-card
@@ -38,5 +38,5 @@ returns-clause-card c =
     let k = claims_tricks c.args.claim in
     let x = c.in_ok-lead.lead.number in
     c.failing_under-2.ensures.card
-    ∙ rest_is failing b x c.in_ok-led.led c.in_ok-led.ensures side _ _ k _ _ c.tricks_left-2.ensures c.claim_less-rest.ensures.side c.claim_less-rest.ensures.tricks c.taken.ensures
+    ∙ rest_is failing b x c.in_ok-led.led c.in_ok-led.ensures side _ _ k _ _ refl c.claim_less-rest.ensures.side c.claim_less-rest.ensures.tricks c.taken.ensures
     ∙ sym (next_led side (tricks_left b) k (seen b) (Some x) (sym c.is_claimers_turn.ensures ∙ c.if-not-is_claimers_turn.false) c.in_ok-lead.ensures.card)
