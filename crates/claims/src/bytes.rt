@@ -7,8 +7,6 @@ use crate::claim::{claim_from, side_of};
 use crate::judge::{Judgement, judge};
 use crate::play_on::{Line, play_on};
 use cards::board::Board;
-use cards::card::Card;
-use cards::player::Player;
 use cards::reader::{byte_at, read_deal};
 use cards::refusal::Refusal;
 use cards::room::Room;
@@ -50,12 +48,7 @@ fn table_after(bytes: &[u8], room: Room) -> Result<Board, Refusal>
 {
     let deal = read_deal(bytes, room, 0)?;
     // places to lend to the referee
-    let unplayed = Play {
-        player: Player { seat: 0 },
-        card: Card { number: 0 },
-        taker: None,
-    };
-    let mut plays = [unplayed; 32];
+    let mut plays = [Play::blank(); 32];
     play_row(&deal.board, rest_from(bytes, deal.size), &mut plays)
 }
 

@@ -1,8 +1,6 @@
 // Plays on: reads a deal, a byte for the side that it plays and the other side's cards from standard input, plays its own by advice, and prints the plays.
 #![tactic(auto)]
 
-use cards::card::Card;
-use cards::player::Player;
 use claims::bytes::play_bytes;
 use console::{lend_slots, most_cards, read_input, serve};
 use referee::row::Play;
@@ -22,12 +20,7 @@ fn run(rt: &HostRuntime, cards: u8) -> anyhow::Result<()> {
     let mut positions = lend_slots(rt.alloc(), cards, 0u64);
     let mut worths = lend_slots(rt.alloc(), cards, 0u8);
     // places to lend
-    let unplayed = Play {
-        player: Player { seat: 0 },
-        card: Card { number: 0 },
-        taker: None,
-    };
-    let mut plays = [unplayed; 32];
+    let mut plays = [Play::blank(); 32];
     match play_bytes(&input, cards, &mut plays, &mut positions, &mut worths) {
         Ok(line) => show_plays(rt, &plays[..line.plays]),
         Err(refusal) => Ok(rt.println(Shown(refusal))?),

@@ -7,6 +7,7 @@ ghost use Rattle.cards.specs.Seen.{seen};
 ghost use Rattle.cards.specs.Refusals.{number_of, place_of};
 ghost use Rattle.tricks.specs.Rules.{may, turn as turn_of};
 ghost use Rattle.tricks.specs.Taken.{taker_of};
+ghost use Rattle.referee.specs.Plays.{note_of, blank};
 ghost use Rattle.referee.specs.Row.{why_by};
 ghost use Rattle.referee.specs.Parts.{Moved, Stepped, Logged, Within, Written};
 ghost use Rattle.referee.specs.Refereed.{Refereed, told};
@@ -27,6 +28,19 @@ pub struct Play {
     pub player: Player,
     pub card: Card,
     pub taker: Option<Player>,
+}
+
+impl Play {
+    // A play that says nothing, for places where none is written yet.
+    pub fn blank() -> Play
+        ensures { note_of result ≡ blank }
+    {
+        Play {
+            player: Player { seat: 0 },
+            card: Card { number: 0 },
+            taker: None,
+        }
+    }
 }
 
 // A play, and the table after it.
@@ -100,12 +114,7 @@ pub fn play_at(board: &Board, byte: u8, place: usize) -> Result<Step, Refusal>
 fn log_row(board: &Board, row: &[u8]) -> Result<Log, Refusal>
     ensures { Logged (seen board.now) row.now result }
 {
-    let any = Play {
-        player: board.leader,
-        card: Card { number: 0 },
-        taker: None,
-    };
-    let mut plays = Few::empty(any);
+    let mut plays = Few::empty(Play::blank());
     let mut table = *board;
     for (place, byte) in row.iter().enumerate() {
         let next = play_at(&table, *byte, place)?;
