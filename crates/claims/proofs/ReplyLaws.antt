@@ -7,11 +7,7 @@ use Rattle.cards.specs.Seen.{seen, tricks_left}
 use Rattle.cards.specs.declared.board.Board.{Board}
 use Rattle.tricks.specs.Rules.{turn, may, winner, after, gains}
 use Rattle.tricks.specs.Statements.{left_after}
-use Rattle.tricks.specs.Taken.{taker_of, taken_by, tricks_of}
-use Rattle.cards.specs.Numbers.{side_number}
-use Rattle.cards.specs.declared.player.Side.{Side}
-use Rattle.cards.specs.declared.player.Side.TheVariants.{Ours, Others}
-use Rattle.claims.specs.Sides.{is_ours}
+use Rattle.tricks.specs.Taken.{taker_of, taken_by}
 use Rattle.tricks.specs.Moves.{After}
 use Rattle.tricks.specs.declared.play.Played.{Played}
 use Rattle.tricks.proofs.MayLaws.{may_parts}
@@ -25,16 +21,6 @@ use Rattle.claims.proofs.LowestLaws.{lowest_is}
 use Rattle.claims.proofs.CardLaws.{kept}
 
 -- ---- what is left of a claim after a card
-other_half : (p : ℕ) → not (eqb (p % 2) 0) ≡ eqb (p % 2) 1
-other_half p = elim (cases_eq (p % 2) 0) [ inl e ↦ rw e refl | inr e ↦ let o : p % 2 ≡ 1 = omega arith in rw o refl ]
-
--- the tricks of a side, by its number and as the statements have it
-pub taken_by_side : (s : Side) (o : Option ℕ) → tricks_of (side_number s) o ≡ side_takes (is_ours s) o
-taken_by_side Ours None = refl
-taken_by_side Ours (Some p) = refl
-taken_by_side Others None = refl
-taken_by_side Others (Some p) = ap one (sym (other_half p))
-
 -- the tricks that a side takes by a card are known by who took the trick
 ours_taken : (x : Bool) (p : ℕ) → side_takes true (pick x (Some p) None) ≡ one (x && eqb (p % 2) 0)
 ours_taken true p = refl

@@ -20,7 +20,8 @@ use crate::turns::is_turn_of;
 use cards::board::Board;
 use cards::card::Card;
 use cards::few::Few;
-use tricks::play::{Played, play};
+use cards::player::Player;
+use tricks::play::play;
 use worth::positions::Positions;
 
 // A card of the side that claims, and the other side's card at its next turn, if it has one.
@@ -37,12 +38,11 @@ pub(crate) fn is_claimers_turn(claim: Claim, board: &Board) -> bool
     is_turn_of(claim.side(), board)
 }
 
-// The tricks of its claim that a side has by a card: one or none.
-#[tactic(auto, using(crate::proofs::ReplyLaws::taken_by_side))]
-fn taken(claim: Claim, played: Played) -> u8
-    ensures { result ≡ side_takes (claims_side claim) (taker_of played.taker) }
+// The tricks of its claim that a side has once this player took a trick: one or none. Beside `Played::gain`, which is for our side alone, for speed.
+fn taken(claim: Claim, taker: Option<Player>) -> u8
+    ensures { result ≡ side_takes (claims_side claim) (taker_of taker) }
 {
-    played.taken_by(claim.side())
+    u8::from(taker.is_some_and(|player| player.side() == claim.side()))
 }
 
 // What is left of a claim.
@@ -67,7 +67,7 @@ fn next_failing(board: &Board, claim: Claim, positions: &mut Positions<'_>) -> O
     }
     let lead = advice_under(board, positions)?;
     let led = play(board, lead)?;
-    let rest = claim_less(claim, taken(claim, led));
+    let rest = claim_less(claim, taken(claim, led.taker));
     failing_under(&led.board, rest, positions)
 }
 
@@ -78,7 +78,7 @@ fn reply_to(board: &Board, card: Card, claim: Claim, positions: &mut Positions<'
     ensures same { SameSlots positions.old positions.new }
 {
     let played = play(board, card)?;
-    let rest = claim_less(claim, taken(claim, played));
+    let rest = claim_less(claim, taken(claim, played.taker));
     let reply = next_failing(&played.board, rest, positions);
     Some(Reply { card, reply })
 }

@@ -13,11 +13,6 @@ taker_of (Some p) = Some p.seat
 abbrev pub taken_by : Table → ℕ → Option ℕ
 taken_by t c = pick (length t.trick == 3) (Some (winner t (t.trick ++ (c ∷ [])))) None
 
--- the tricks that the side by number s has where this player takes the trick: one or none
-abbrev pub tricks_of : ℕ → Option ℕ → ℕ
-tricks_of s None = 0
-tricks_of s (Some p) = one (p % 2 == s)
-
 -- the tricks that our side gains where this player takes the trick
 abbrev pub gain_of : Option ℕ → ℕ
 gain_of None = 0

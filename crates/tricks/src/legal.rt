@@ -32,11 +32,16 @@ pub fn may_play(board: &Board, card: Card) -> bool
     is_playable(hand_to_play(board), led(board), card)
 }
 
-// The thirteen bits of a suit.
+// The thirteen bits of a suit. Suit by suit: with a shift by 13 times its number the search took a quarter longer, above the bar that this meets.
 fn suit_mask(suit: Suit) -> u64
     ensures { result ≡ 8191 * 2 ^ (13 * suit_number suit) }
 {
-    0x1fff << (13 * suit as u8)
+    match suit {
+        Suit::Clubs => 0x1fff,
+        Suit::Diamonds => 0x1fff << 13,
+        Suit::Hearts => 0x1fff << 26,
+        Suit::Spades => 0x1fff << 39,
+    }
 }
 
 // The cards of a suit.

@@ -3,10 +3,9 @@ ghost use Rattle.std.specs.Prelude.{◌≡◌, ℕ, ◌+◌, ◌%◌, ◌<◌, t
 ghost use Rattle.cards.specs.Table.{pick};
 ghost use Rattle.cards.specs.Bits.{bit};
 ghost use Rattle.cards.specs.Hands.{held, numbers};
-ghost use Rattle.cards.specs.Numbers.{side_number};
 ghost use Rattle.cards.specs.Seen.{seen};
 ghost use Rattle.tricks.specs.Rules.{may, after};
-ghost use Rattle.tricks.specs.Taken.{taker_of, taken_by, tricks_of, gain_of, next_of};
+ghost use Rattle.tricks.specs.Taken.{taker_of, taken_by, gain_of, next_of};
 ghost use Rattle.tricks.specs.Moves.{After};
 
 use crate::legal::may_play;
@@ -24,26 +23,15 @@ pub struct Played {
     pub taker: Option<Player>,
 }
 
-// Whether a player is of a side.
-fn is_of(player: Player, side: Side) -> bool
-    ensures { result ≡ (player.seat % 2 == side_number side) }
-{
-    player.side() == side
-}
-
 impl Played {
-    // The tricks that a side took by the card: one or none.
-    pub fn taken_by(self, side: Side) -> u8
-        ensures { result ≡ tricks_of (side_number side) (taker_of self.taker) }
-    {
-        u8::from(self.taker.is_some_and(|player| is_of(player, side)))
-    }
-
-    // The tricks that our side took by the card.
+    // The tricks that our side took by the card: one or none. Not a case of a function for both sides, with which the search took a tenth longer.
     pub fn gain(self) -> u8
         ensures { result ≡ gain_of (taker_of self.taker) }
     {
-        self.taken_by(Side::Ours)
+        self.taker.map_or(0, |player| match player.side() {
+            Side::Ours => 1,
+            Side::Others => 0,
+        })
     }
 }
 
