@@ -77,7 +77,7 @@ fn gather(cards: &[u8], from: usize, taken: Hand) -> Result<Hand, Refusal>
     Ok(hand)
 }
 
-// The four hands, or a refusal at the first card that is none, or stands before.
+// The four hands, or a refusal at the first card that is none, or stands before. Each hand goes to its place in the array, beside the starts that are gone over.
 fn hands_in(layout: &Layout<'_>, trick: Hand) -> Result<[Hand; 4], Refusal>
     requires whole { start_of layout.now.bytes.now 4 ≤ length layout.now.bytes.now }
     requires trick { (x : ℕ) → bit trick.bits x ≡ has (trick_of layout.now.bytes.now) x }

@@ -32,6 +32,7 @@ pub fn most_cards(rt: &HostRuntime) -> anyhow::Result<u8>
 {
     let mut args = env::args(rt)?;
     let _program = args.next();
+    // no `?`: without an argument it ends well
     let Some(word) = args.next() else {
         return Ok(5);
     };

@@ -23,7 +23,7 @@ fn on_table(board: &Board) -> Hand
     lying
 }
 
-// The cards of the three others: both opponents and the partner.
+// The cards of the three others: both opponents and the partner. A union of its own, as the next but one is: each is bracketed as its definition, and has an edit.
 fn all_three(next: Hand, partner: Hand, last: Hand) -> Hand
     ensures { (x : ℕ) → bit result.bits x ≡ (bit next.bits x || (bit partner.bits x || bit last.bits x)) }
 {

@@ -56,7 +56,7 @@ impl InPlay {
         next_lower(self.all, card).is_some_and(|next| self.own.holds(next))
     }
 
-    // Whether a card is in a set, and not covered.
+    // Whether a card is in a set, and not covered; asked of one card alone, without going through the others.
     fn leaves(self, cards: Hand, card: Card) -> bool
         ensures { result ≡ (bit cards.bits card.number && not (covered (bit self.own.bits) (bit self.all.bits) card.number)) }
     {

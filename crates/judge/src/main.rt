@@ -6,6 +6,7 @@ use console::{lend_slots, most_cards, read_input, serve};
 use std::process::ExitCode;
 use text::Shown;
 
+// It begins as `play`'s does, with input and slots, and goes on with other memory and another answer.
 fn run(rt: &HostRuntime, cards: u8) -> anyhow::Result<()> {
     let input = read_input(rt)?;
     let mut positions = lend_slots(rt.alloc(), cards, 0u64);

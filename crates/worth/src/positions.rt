@@ -17,7 +17,7 @@ pub fn slots(cards: u8) -> usize
     1 << (2 * cards.min(8) + 4)
 }
 
-// The cards of four hands.
+// The cards of four hands, in pairs, as `held` has them; so not by a union of any number.
 fn all_of(a: Hand, b: Hand, c: Hand, d: Hand) -> Hand
     ensures { (x : ℕ) → bit result.bits x ≡ ((bit a.bits x || bit b.bits x) || (bit c.bits x || bit d.bits x)) }
 {
