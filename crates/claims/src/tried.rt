@@ -1,5 +1,5 @@
 // The cards of a table that came of the root, tried: what a card brings, and the lowest that brings what is looked for.
-ghost use Rattle.std.specs.Prelude.{◌≡◌, ◌<◌};
+ghost use Rattle.std.specs.Prelude.{◌≡◌, ◌+◌, ◌<◌};
 ghost use Rattle.cards.specs.Table.{deck};
 ghost use Rattle.cards.specs.Seen.{seen};
 ghost use Rattle.worth.specs.Positions.{Under};
@@ -21,6 +21,14 @@ pub(crate) fn nth_card(place: u8) -> Card
     Card { number: place }
 }
 
+// The tricks that are gained at once, and those of the table after.
+fn in_all(gain: u8, rest: u8) -> u8
+    requires { gain + rest < 256 }
+    ensures { result ≡ gain + rest }
+{
+    gain + rest
+}
+
 // The tricks for our side by a card, if it may be played.
 pub(crate) fn worth_by(board: &Board, card: Card, positions: &mut Positions<'_>) -> Option<u8>
     requires { Under (seen positions.old.root) (seen board.now) }
@@ -29,7 +37,7 @@ pub(crate) fn worth_by(board: &Board, card: Card, positions: &mut Positions<'_>)
 {
     let played = play(board, card)?;
     let rest = worth_under(&played.board, positions);
-    Some(played.gain() + rest)
+    Some(in_all(played.gain(), rest))
 }
 
 // The lowest card that may be played and whose worth passes a test. By a loop: to try a card writes to the positions,

@@ -9,8 +9,8 @@ use Rattle.claims.proofs.tried.worth_by.Goals as goal
 pub worth_under-rest-requires : goal.worth_under-rest-requires
 worth_under-rest-requires c = after_under c.args.board.now c.args.card.number c.in_ok-played.played c.in_ok-played.ensures _ c.requires
 
-pub overflow_add-result : goal.overflow_add-result
-overflow_add-result c =
+pub in_all-requires : goal.in_all-requires
+in_all-requires c =
     let b = c.args.board.now in
     omega (arith, (in_order b).few, after_within b c.args.card.number c.in_ok-played.played c.in_ok-played.ensures (tricks_left b) _ _ refl c.gain.ensures c.worth_under-rest.ensures.worth)
 
@@ -19,5 +19,5 @@ returns-clause-worth c =
     let b = c.args.board.now in
     let x = c.args.card.number in
     let done = c.in_ok-played.ensures in
-    ap Some (after_worth b x c.in_ok-played.played done _ _ c.gain.ensures c.worth_under-rest.ensures.worth)
+    ap Some (c.in_all.ensures ∙ after_worth b x c.in_ok-played.played done _ _ c.gain.ensures c.worth_under-rest.ensures.worth)
     ∙ sym (ap (λ (m : Bool). pick m (Some (worth_by (seen b) x)) None) done.legal)
