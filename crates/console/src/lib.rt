@@ -1,12 +1,12 @@
 // What both programs do around the answer: their argument, their input, the memory for positions, and their exit status.
 #![tactic(auto)]
 
-ghost use Rattle.std.specs.Prelude.{◌≡◌, ℕ, ◌+◌, ◌*◌, ◌^◌, ◌≤◌, min, ◌⊎◌, Ok, IfSome, IfOk, vec_len};
+ghost use Rattle.std.specs.Prelude.{◌≡◌, ℕ, ◌+◌, ◌*◌, ◌^◌, ◌≤◌, min, ◌⊎◌, Ok, IfSome, IfOk, vec_len, true, false, Some, None, MatchOption};
 ghost use Rattle.std.specs.List.{AllClonesOf};
 ghost use Rattle.std.specs.Process.{exit_status};
 ghost use Rattle.console.specs.Served.{Served, Ended};
 
-use anyhow::{Context, ensure};
+use anyhow::Context;
 use std::alloc::Global;
 use std::env;
 use std::io::Read;
@@ -26,18 +26,30 @@ fn cards_in(word: &str) -> Option<u8>
         .filter(|cards| (1..=8).contains(cards))
 }
 
-// The most cards in a hand that are served: the argument, or 5 without one.
+// The most cards in a hand that are asked for: what the argument says, or 5 without one; none where there are more arguments.
+fn cards_asked(word: Option<&str>, more: bool) -> Option<u8>
+    ensures value { MatchOption word.entry (result ≡ Some 5) (λ w. more ≡ false → Served w.now result) }
+    ensures one { more ≡ true → IfSome word.entry (λ _. result ≡ None) }
+    ensures bound { IfSome result (λ n. (1 ≤ n) × (n ≤ 8)) }
+{
+    let Some(word) = word else {
+        return Some(5);
+    };
+    if more {
+        return None;
+    }
+    cards_in(word)
+}
+
+// The most cards in a hand that are served, by the program's arguments.
 pub fn most_cards(rt: &HostRuntime) -> anyhow::Result<u8>
     ensures { IfOk result (λ n. (1 ≤ n) × (n ≤ 8)) }
 {
     let mut args = env::args(rt)?;
     let _program = args.next();
-    // no `?`: without an argument it ends well
-    let Some(word) = args.next() else {
-        return Ok(5);
-    };
-    ensure!(args.next().is_none(), "more than one argument");
-    cards_in(word.as_str()).context("no number of cards")
+    let word = args.next();
+    let more = args.next().is_some();
+    cards_asked(word.as_deref(), more).context("no number of cards")
 }
 
 // All of standard input. Where nothing of it can be read, as where it is closed, it has no byte.
