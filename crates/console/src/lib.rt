@@ -52,13 +52,11 @@ pub fn most_cards(rt: &HostRuntime) -> anyhow::Result<u8>
     cards_asked(word.as_deref(), more).context("no number of cards")
 }
 
-// All of standard input. Where nothing of it can be read, as where it is closed, it has no byte.
+// All of standard input.
 pub fn read_input(rt: &HostRuntime) -> anyhow::Result<Vec<u8>> {
     let mut input = Vec::new(rt.alloc());
-    match rt.stdin().read_to_end(&mut input) {
-        Err(error) if !input.is_empty() => Err(error.into()),
-        _ => Ok(input),
-    }
+    rt.stdin().read_to_end(&mut input)?;
+    Ok(input)
 }
 
 // The slots for tables of so many cards in a hand, all empty. Without memory there is no slot, and the refusal says so.
