@@ -1,5 +1,5 @@
 // A list of few values, in memory of its own.
-ghost use Rattle.std.specs.Prelude.{◌≡◌, ◌<◌, ◌≤◌, ◌↔◌, ⊤, [], ◌∷◌, ◌++◌, length, IsOk, OnOk, OnErr};
+ghost use Rattle.std.specs.Prelude.{◌≡◌, ◌<◌, ◌≤◌, ◌↔◌, ⊤, [], ◌∷◌, ◌++◌, length, take, IsOk, OnOk, OnErr};
 
 use std::alloc::AllocError;
 
@@ -37,6 +37,16 @@ impl<T: Copy, const N: usize> Few<T, N> {
         Few {
             items: [filler; N],
             len: 0,
+        }
+    }
+
+    // The first so many of an array's values: all of them where the count is larger, so that any count will do.
+    pub fn first(items: [T; N], count: usize) -> Self
+        ensures { listed result ≡ take count items }
+    {
+        Few {
+            items,
+            len: count.min(N),
         }
     }
 

@@ -13,9 +13,14 @@ mod tests {
     use crate::judged::{LEADS, LENT, REFUSED, ROWS, STARTED, WORKED, WORTHS};
     use crate::lines::{judged_lines, parts_of, played_lines};
     use crate::played::{PLACES, PLAYED, UNPLAYED};
+    use cards::card::Card;
+    use cards::few::Few;
+    use claims::judge::Judgement;
+    use claims::replies::Reply;
     use std::alloc::Global;
     use std::process::Abort;
     use std::test::Fail;
+    use text::Shown;
 
     // Whether a side has the tricks that it claims, where so many of those left are ours.
     fn is_upheld(side: u8, tricks: u8, left: u8, worth: u8) -> bool {
@@ -98,5 +103,29 @@ mod tests {
         check_played(&rt, rt.alloc(), &PLAYED)?;
         check_played(&rt, rt.alloc(), &UNPLAYED)?;
         check_played(&rt, rt.alloc(), &PLACES)
+    }
+
+    // An array of replies with a count beside it, whatever the count: past the array's end all of them are shown.
+    #[test]
+    fn replies_up_to_a_count(rt: HostRuntime) -> Result<(), Fail> {
+        let reply = Reply {
+            card: Card { number: 0 },
+            reply: None,
+        };
+        let one = "worth 0\nnot upheld\nC2: -";
+        let all = "worth 0\nnot upheld\nC2: -\nC2: -\nC2: -\nC2: -\nC2: -\nC2: -\nC2: -\nC2: -";
+        for (count, wanted) in [
+            (0, "worth 0\nnot upheld"),
+            (1, one),
+            (8, all),
+            (9, all),
+            (255, all),
+        ] {
+            let replies = Few::first([reply; 8], count);
+            let judgement = Judgement::Replies { worth: 0, replies };
+            let lines = format!(in rt.alloc(); "{}", Shown(judgement))?;
+            assert_eq!(rt; lines.as_str(), wanted);
+        }
+        Ok(())
     }
 }
