@@ -49,7 +49,12 @@ pub fn most_cards(rt: &HostRuntime) -> anyhow::Result<u8>
     let _program = args.next();
     let word = args.next();
     let more = args.next().is_some();
-    cards_asked(word.as_deref(), more).context("no number of cards")
+    let reason = if more {
+        "more than one argument"
+    } else {
+        "no number of cards"
+    };
+    cards_asked(word.as_deref(), more).context(reason)
 }
 
 // All of standard input.
