@@ -63,6 +63,7 @@ fn part(bytes: &[u8], from: usize, count: usize) -> &[u8]
 }
 
 // The set of some cards that stand from a place on, or a refusal at the first that is none, or that is in `taken` or there already.
+#[tactic(auto, using(crate::proofs::GatherLaws::going_bad))]
 fn gather(cards: &[u8], from: usize, taken: Hand) -> Result<Hand, Refusal>
     requires { from + length cards.now < 2 ^ 64 }
     ensures { Says 4 result (first_bad (bit taken.bits) from cards.now) (λ h. Gathered cards.now h.bits) }

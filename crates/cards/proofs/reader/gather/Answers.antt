@@ -1,5 +1,5 @@
 use Rattle.std.proofs.Common.{rules, arith}
-use Rattle.cards.proofs.GatherLaws.{going_none, going_more, going_bad, going_all}
+use Rattle.cards.proofs.GatherLaws.{going_none, going_more, going_all}
 use Rattle.cards.proofs.reader.gather.Goals as goal
 
 pub loop-i-init : goal.loop-i-init
@@ -10,6 +10,3 @@ loop-i-preserved c = going_more _ _ _ _ _ _ _ c.loop-i.invariant (omega arith) c
 
 pub returns : goal.returns
 returns c = search (rules, going_all)
-
-pub returns-in_default : goal.returns-in_default
-returns-in_default c = search (rules, going_bad)
