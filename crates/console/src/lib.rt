@@ -1,7 +1,7 @@
 // What both programs do around the answer: their argument, their input, the memory for positions, and their exit status.
 #![tactic(auto)]
 
-ghost use Rattle.std.specs.Prelude.{◌≡◌, ℕ, ◌+◌, ◌*◌, ◌^◌, ◌≤◌, min, ◌⊎◌, Ok, IfSome, IfOk, vec_len, true, false, Some, None, MatchOption};
+ghost use Rattle.std.specs.Prelude.{◌≡◌, ℕ, ◌+◌, ◌*◌, ◌^◌, ◌≤◌, min, ◌⊎◌, Ok, IfSome, IfOk, vec_len, codes, true, false, Some, None, MatchOption};
 ghost use Rattle.std.specs.List.{AllClonesOf};
 ghost use Rattle.std.specs.Process.{exit_status};
 ghost use Rattle.console.specs.Served.{Served, Ended};
@@ -41,6 +41,18 @@ fn cards_asked(word: Option<&str>, more: bool) -> Option<u8>
     cards_in(word)
 }
 
+// Why the arguments ask for no cards: there are several, or the one says no number from 1 to 8.
+fn reason(several: bool) -> &'static str
+    ensures many { several ≡ true → result.now ≡ codes "more than one argument" }
+    ensures one { several ≡ false → result.now ≡ codes "no number of cards" }
+{
+    if several {
+        "more than one argument"
+    } else {
+        "no number of cards"
+    }
+}
+
 // The most cards in a hand that are served, by the program's arguments.
 pub fn most_cards(rt: &HostRuntime) -> anyhow::Result<u8>
     ensures { IfOk result (λ n. (1 ≤ n) × (n ≤ 8)) }
@@ -49,12 +61,7 @@ pub fn most_cards(rt: &HostRuntime) -> anyhow::Result<u8>
     let _program = args.next();
     let word = args.next();
     let more = args.next().is_some();
-    let reason = if more {
-        "more than one argument"
-    } else {
-        "no number of cards"
-    };
-    cards_asked(word.as_deref(), more).context(reason)
+    cards_asked(word.as_deref(), more).context(reason(more))
 }
 
 // All of standard input.
