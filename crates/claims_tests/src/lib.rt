@@ -108,20 +108,23 @@ mod tests {
     // An array of replies with a count beside it, whatever the count: past the array's end all of them are shown.
     #[test]
     fn replies_up_to_a_count(rt: HostRuntime) -> Result<(), Fail> {
-        let reply = Reply {
-            card: Card { number: 0 },
+        let mut replies = [Reply {
+            card: Card { number: 1 },
             reply: None,
-        };
-        let one = "worth 0\nnot upheld\nC2: -";
-        let all = "worth 0\nnot upheld\nC2: -\nC2: -\nC2: -\nC2: -\nC2: -\nC2: -\nC2: -\nC2: -";
+        }; 8];
+        replies[0].card = Card { number: 0 };
+        replies[7].card = Card { number: 2 };
+        let seven = "worth 0\nnot upheld\nC2: -\nC3: -\nC3: -\nC3: -\nC3: -\nC3: -\nC3: -";
+        let all = "worth 0\nnot upheld\nC2: -\nC3: -\nC3: -\nC3: -\nC3: -\nC3: -\nC3: -\nC4: -";
         for (count, wanted) in [
             (0, "worth 0\nnot upheld"),
-            (1, one),
+            (1, "worth 0\nnot upheld\nC2: -"),
+            (7, seven),
             (8, all),
             (9, all),
             (255, all),
         ] {
-            let replies = Few::first([reply; 8], count);
+            let replies = Few::first(replies, count);
             let judgement = Judgement::Replies { worth: 0, replies };
             let lines = format!(in rt.alloc(); "{}", Shown(judgement))?;
             assert_eq!(rt; lines.as_str(), wanted);
